@@ -1,0 +1,7 @@
+pub mod Lists
+pub mod Lawful
+pub mod Pieces
+pub mod Bodies
+pub mod Rows
+mod Fronts
+mod Puts

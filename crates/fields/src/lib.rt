@@ -1,0 +1,18 @@
+// The fields of calls and answers, read from bytes and written to them.
+mod numbers;
+mod reading;
+mod values;
+mod writing;
+
+pub use reading::read;
+pub use values::{Fields, Numbers, Place, Registers, Shape, Unwritten};
+pub use writing::write;
+
+ghost use Rattle.fields.specs.Promises.{Lawful-bodies};
+
+// Every shape's fields are read back as they were written, have one spelling, and cease where they should.
+pub fn bodies_stand() -> u8
+    ensures { λ _. ⌜ Lawful-bodies ⌝ }
+{
+    0
+}
