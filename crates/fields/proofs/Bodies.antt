@@ -4,7 +4,7 @@ use mathlib.Core.Bool.{Bool, true, false, cond}
 use mathlib.Core.List.{List, [], _∷_, _++_, append-assoc, append-nil}
 use Prim.Native.Nat.{ℕ, zero, suc, _+_, _*_, _-_, _/_, _%_, _^_, _≤_, _<_}
 use native.Mathlib.Omega.{arith}
-use borrow.Author.Tests.{le-leb, ltb-true}
+use borrow.Author.Tests.{le-leb, lt-ltb, ltb-true}
 use lib.Dec.{ltb, leb, eqb}
 use lib.ListN.{length, getD, take, replicate}
 use Rattle.std.specs.declared.option.Option.{Option}
@@ -13,8 +13,7 @@ use Rattle.std.proofs.shelf.Lists.{take-at}
 use Rattle.model.specs.Calls as model
 use Rattle.fields.specs.Bytes.{Wide}
 use Rattle.fields.specs.Codec.{Codec, byte, numbers, both}
-use Rattle.fields.specs.Shapes.{Body, padded, rights, to-place, from-place, place, origin, list, place-if, list-if, to-body, from-body, body}
-use Rattle.fields.specs.declared.values.Shape.{Shape}
+use Rattle.fields.specs.Shapes.{Layout, Body, padded, rights, to-place, from-place, place, origin, list, place-if, list-if, to-body, from-body, body}
 use Rattle.fields.proofs.Lawful.{Lawful, lawful-both, lawful-via}
 use Rattle.fields.proofs.Pieces.{lawful-nothing, lawful-byte, lawful-numbers}
 
@@ -54,9 +53,29 @@ lawful-list-if : (o : Option ℕ) → Lawful (list-if o)
 lawful-list-if (Some most) = lawful-list most
 lawful-list-if None = lawful-nothing []
 
-pub lawful-body : (s : Shape) → Lawful (body s)
+pub lawful-body : (s : Layout) → Lawful (body s)
 lawful-body s =
     lawful-via to-body from-body _
         (lawful-both (padded (s .numbers)) _ (lawful-padded (s .numbers))
             (λ _ _. lawful-both (place-if (s .place)) _ (lawful-place-if (s .place)) (λ _ _. lawful-list-if (s .list))))
         (λ v f. refl)
+
+-- which places and lists their bytes can carry
+rights-few : (w x : Bool) → rights w x < 4
+rights-few true true = omega arith
+rights-few true false = omega arith
+rights-few false true = omega arith
+rights-few false false = omega arith
+
+rights-back : (t s : ℕ) (w x : Bool) → to-place (from-place (record { table = t; slot = s; write = w; run = x })) ≡ record { table = t; slot = s; write = w; run = x }
+rights-back t s true true = refl
+rights-back t s true false = refl
+rights-back t s false true = refl
+rights-back t s false false = refl
+
+pub place-fits : (w : model.Place) → w .table < 2 ^ 64 → w .slot < 2 ^ 64 → place .fits w
+place-fits w h k =
+    (((refl, (h, (k, tt))), lt-ltb (rights (w .write) (w .run)) 4 (rights-few (w .write) (w .run))), rights-back (w .table) (w .slot) (w .write) (w .run))
+
+pub list-fits : (most : ℕ) (l : List ℕ) → leb (length l) most ≡ true → Wide l → list most .fits l
+list-fits most l h k = ((h, (refl, k)), refl)

@@ -17,7 +17,7 @@ use Rattle.std.specs.declared.result.Result.the-variants.{Ok, Err}
 use Rattle.model.specs.Calls as model
 use Rattle.fields.specs.Bytes.{number-in, numbers-in}
 use Rattle.fields.specs.Codec.{Got, got, lost, Codec, read-byte, byte, numbers, both, and-then, closed}
-use Rattle.fields.specs.Shapes.{padded, place, list, place-if, list-if, body, place-of, numbers-of, body-of}
+use Rattle.fields.specs.Shapes.{padded, place, list, place-if, list-if, body, layout, place-of, numbers-of, body-of}
 use Rattle.fields.specs.Steps.{all-of, rest-of, Read}
 use Rattle.fields.specs.declared.reading.Cursor.{Cursor}
 use Rattle.fields.specs.declared.values.Fields.{Fields}
@@ -124,7 +124,7 @@ part-numbers n k bs e h =
 -- a shape's fields, one after another
 pub body-there : (f : Fields) (s : Shape) (r a b e : Cursor) → Read (padded (s .numbers)) (λ v. v) r (Ok (f .numbers)) a →
     Read (place-if (s .place)) place-of a (Ok (f .place)) b → Read (list-if (s .list)) numbers-of b (Ok (f .list)) e →
-    body s .read (rest-of r) ≡ got (body-of f) (drop (e .at) (all-of r))
+    body (layout s) .read (rest-of r) ≡ got (body-of f) (drop (e .at) (all-of r))
 body-there f s r a b e n p l =
     let same : e .bytes ≡ r .bytes = l .0 ∙ p .0 ∙ n .0 in
     rw (n .1, p .1, l .1) (ap (λ x. got (body-of f) (drop (e .at) (x .now))) same)

@@ -4,13 +4,16 @@ use mathlib.Core.List.{List, [], _∷_, _++_, append-assoc, append-nil}
 use mathlib.Core.Logic.{_⊎_, inl, inr, ⊎-elim}
 use Prim.Native.Nat.{ℕ, zero, suc, _+_, _-_, _≤_, _<_}
 use native.Mathlib.Omega.{arith}
-use lib.ListN.{length, take, drop, length-append, length-take}
+use lib.ListN.{length, getD, take, drop, length-append, length-take}
 use Rattle.std.specs.declared.result.Result.{Result}
 use Rattle.std.specs.declared.result.Result.the-variants.{Ok, Err}
 use Rattle.std.proofs.shelf.Lists.{take-append-drop, take-at, take-all, length-take-le}
 use Rattle.std.proofs.shelf.Tests.{cases-lt}
 use Rattle.fields.specs.Bytes.{Bytes}
 use Rattle.fields.specs.Codec.{Got, got, lost, Codec, and-then, both, via, closed, read-all, Begins, Read-back, One-spelling, Ceases, Says-where}
+use Rattle.std.specs.Results.{Cases}
+use Rattle.fields.specs.Steps.{seen, Reading}
+use Rattle.std.proofs.shelf.Elements.{all-from-getD}
 use Rattle.fields.proofs.Lists.{begins-none, begins-more, begins-behind, begins-long, take-behind, taken-behind, all-parts}
 
 -- where a piece is lost with r bytes left, some value's bytes share all that stands before them
@@ -226,3 +229,17 @@ says-where c l bs k t e =
                     omega arith)
                 (cases-lt j (length (c .write v))) })
     (closed-err (length bs) (c .read bs) k e)
+
+-- a place lies within the bytes
+pub err-within : {A : Type 0} (n : ℕ) (g : Got A) (k : ℕ) → closed n g ≡ Err k → k ≤ n
+err-within n g k e = ⊎-elim (λ l. omega (arith, l .2)) (λ l. omega (arith, l .3)) (closed-err n g k e)
+
+-- what was read, and by that how it is spelled
+spelled : {A B : Type 0} (c : Codec A) (f : B → A) (bs : List ℕ) (r : Result B ℕ) → Lawful c → Bytes bs → read-all c bs ≡ seen f r →
+    Cases r (λ v. c .write (f v) ≡ bs) (λ k. Ceases c bs k)
+spelled c f bs (Ok v) l t e = one-spelling c l bs (f v) t e .1
+spelled c f bs (Err k) l t e = says-where c l bs k t e
+
+pub reading : {A B : Type 0} (c : Codec A) (f : B → A) (bs : List ℕ) (r : Result B ℕ) → Lawful c → ((i : ℕ) → getD bs i 0 < 256) →
+    read-all c bs ≡ seen f r → Reading c f bs r
+reading c f bs r l t e = record { value = e; spelling = spelled c f bs r l (all-from-getD _ bs 0 (λ i _. t i)) e }

@@ -13,7 +13,7 @@ use Rattle.std.proofs.shelf.Lists.{drop-drop, drop-at, take-at, take-append-dro
 use Rattle.std.proofs.shelf.Elements.{all-from-getD}
 use Rattle.fields.specs.Bytes.{number-bytes, numbers-bytes, numbers-in}
 use Rattle.model.specs.Calls as model
-use Rattle.fields.specs.Shapes.{Body, padded, place, list, place-if, list-if, body}
+use Rattle.fields.specs.Shapes.{Body, padded, place, list, place-if, list-if, body, layout}
 use Rattle.fields.specs.declared.values.Shape.{Shape}
 use Rattle.fields.specs.Steps.{Wrote}
 use Rattle.fields.proofs.Pieces.{length-numbers-bytes, length-numbers-in, numbers-front}
@@ -113,17 +113,17 @@ wrote-first a b ns n at e h w =
 
 -- a whole message
 pub length-message : (s : Shape) (n : ℕ) (f : Body) → length (f .numbers) ≡ 4 →
-    length (n ∷ body s .write f) ≡ 1 + 8 * s .numbers + length (place-if (s .place) .write (f .place)) + length (list-if (s .list) .write (f .list))
+    length (n ∷ body (layout s) .write f) ≡ 1 + 8 * s .numbers + length (place-if (s .place) .write (f .place)) + length (list-if (s .list) .write (f .list))
 length-message s n f h =
     let few = s .few in
     let l : length (numbers-bytes (take (s .numbers) (f .numbers))) ≡ 8 * s .numbers =
         length-numbers-bytes _ ∙ ap (λ k. 8 * k) (simp length-take (omega arith)) in
     simp length-append (omega arith)
 
-pub wrote-message : (s : Shape) (n : ℕ) (f : Body) (a b c d e : List ℕ) (x y z end : ℕ) → length (n ∷ body s .write f) ≤ length a →
+pub wrote-message : (s : Shape) (n : ℕ) (f : Body) (a b c d e : List ℕ) (x y z end : ℕ) → length (n ∷ body (layout s) .write f) ≤ length a →
     Wrote a b 0 (n ∷ []) x → Wrote b c x (numbers-bytes (take (s .numbers) (f .numbers))) y → Wrote c d y (place-if (s .place) .write (f .place)) z →
     Wrote d e z (list-if (s .list) .write (f .list)) end →
-    (end ≡ length (n ∷ body s .write f)) × (e ≡ (n ∷ body s .write f) ++ drop end a)
+    (end ≡ length (n ∷ body (layout s) .write f)) × (e ≡ (n ∷ body (layout s) .write f) ++ drop end a)
 wrote-message s n f a b c d e x y z end room p q r t =
     let ns : List ℕ = numbers-bytes (take (s .numbers) (f .numbers)) in
     let pl : List ℕ = place-if (s .place) .write (f .place) in
@@ -133,5 +133,5 @@ wrote-message s n f a b c d e x y z end room p q r t =
     let u : Wrote c e y (pl ++ ls) end = wrote-more c d e pl ls y z end r t (omega (arith, p .ends, p .long, q .ends, q .long)) in
     let v : Wrote b e x (ns ++ (pl ++ ls)) end = wrote-more b c e ns (pl ++ ls) x y end q u (simp length-append (omega (arith, p .ends, p .long))) in
     let w : Wrote a e 0 (n ∷ (ns ++ (pl ++ ls))) end = wrote-more a b e (n ∷ []) (ns ++ (pl ++ ls)) 0 x end p v (simp length-append (omega arith)) in
-    let en : end ≡ length (n ∷ body s .write f) = w .ends ∙ omega arith in
-    (en, w .there ∙ ap (λ k. (n ∷ body s .write f) ++ drop k a) (sym (w .ends)))
+    let en : end ≡ length (n ∷ body (layout s) .write f) = w .ends ∙ omega arith in
+    (en, w .there ∙ ap (λ k. (n ∷ body (layout s) .write f) ++ drop k a) (sym (w .ends)))

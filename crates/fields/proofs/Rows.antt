@@ -5,29 +5,36 @@ use mathlib.Core.List.{List, [], _∷_, _++_}
 use mathlib.Core.Logic.{⊎-elim}
 use Prim.Native.Nat.{ℕ, zero, suc, _+_, _-_, _≤_, _<_}
 use native.Mathlib.Omega.{arith}
-use borrow.Author.Tests.{eqb-true}
+use borrow.Author.Tests.{eqb-true, eqb-false}
 use lib.Dec.{eqb}
-use lib.ListN.{length, getD, take, replicate}
+use lib.ListN.{length, getD, take, drop, replicate, length-append, length-take}
 use Rattle.std.proofs.shelf.Tests.{cases-bool}
-use Rattle.std.specs.Options.{isSome}
+use Rattle.std.specs.Options.{isSome, mapped}
+use Rattle.std.specs.declared.result.Result.{Result}
+use Rattle.std.specs.declared.result.Result.the-variants.{Ok, Err}
 use Rattle.std.specs.declared.option.Option.{Option}
 use Rattle.std.specs.declared.option.Option.the-variants.{Some, None}
 use Rattle.std.specs.shelf.Lists.{All}
 use Rattle.model.specs.Calls as model
-use Rattle.fields.specs.Codec.{Codec}
-use Rattle.fields.specs.Shapes.{Body, padded, body}
-use Rattle.fields.specs.Tables.{Row, find, made, shaped, message, messages}
-use Rattle.fields.proofs.Lawful.{Lawful, lawful-both, lawful-via}
+use Rattle.fields.specs.Bytes.{Bytes}
+use Rattle.fields.specs.Codec.{Codec, Got, got, lost, and-then, closed, read-all}
+use Rattle.fields.specs.Shapes.{Layout, Body, padded, body, few}
+use Rattle.fields.specs.Tables.{Row, find, layout-of, few-for, made, shaped, message, messages}
+use Rattle.fields.specs.Steps.{seen, Reading, Written}
+use Rattle.fields.specs.declared.values.Unwritten.{Unwritten}
+use Rattle.std.proofs.shelf.Lists.{drop-more, take-rest, nil-from-length}
+use Rattle.std.proofs.shelf.Elements.{all-from-getD, all-drop}
+use Rattle.fields.proofs.Lawful.{Lawful, lawful-both, lawful-via, err-within, reading}
 use Rattle.fields.proofs.Pieces.{lawful-nothing, lawful-byte}
 use Rattle.fields.proofs.Bodies.{lawful-body}
 
 lawful-shaped : {A : Type 0} (o : Option (Row A)) → Lawful (shaped o)
-lawful-shaped (Some r) = lawful-body (r .shape)
+lawful-shaped (Some r) = lawful-body (r .layout)
 lawful-shaped None = lawful-nothing _
 
 -- what a row's fields make has that row's number, and those fields
 abbrev pub Again : {A : Type 0} → (A → ℕ × Body) → Row A → Type 0
-Again from r = (f : Body) → body (r .shape) .fits f → from (r .makes f) ≡ (r .number, f)
+Again from r = (f : Body) → body (r .layout) .fits f → from (r .makes f) ≡ (r .number, f)
 
 found : {A : Type 0} (from : A → ℕ × Body) (none : A) (rs : List (Row A)) (n : ℕ) (f : Body) → All (Again from) rs → isSome (find n rs) ≡ true →
     shaped (find n rs) .fits f → from (made none (find n rs) f) ≡ (n, f)
@@ -43,6 +50,101 @@ pub lawful-messages : {A : Type 0} (from : A → ℕ × Body) (none : A) (rs : L
 lawful-messages from none rs zero-there again =
     lawful-via _ from (message rs) (lawful-both _ _ (lawful-byte _ zero-there) (λ n _. lawful-shaped (find n rs)))
         (λ m g. found from none rs (m .0) (m .1) again (g .0) (g .1))
+
+-- one byte more in front
+abbrev pub behind-one : {A B : Type 0} → (B → A) → Result B ℕ → Result A ℕ
+behind-one f (Ok v) = Ok (f v)
+behind-one f (Err k) = Err (k + 1)
+
+no-row : {A : Type 0} (o : Option (Row A)) → mapped (λ r. r .layout) o ≡ None → o ≡ None
+no-row None e = refl
+no-row (Some r) e = let z : _≡_ {A = ℕ} 0 1 = cc in absurd (omega arith)
+
+some-row : {A : Type 0} (o : Option (Row A)) (l : Layout) → mapped (λ r. r .layout) o ≡ Some l → (r : Row A) × (o ≡ Some r) × (r .layout ≡ l)
+some-row None l e = let z : _≡_ {A = ℕ} 0 1 = cc in absurd (omega arith)
+some-row (Some r) l e = (r, refl, cc)
+
+-- bytes that begin with the number of no row
+pub read-unknown : {A : Type 0} (from : A → ℕ × Body) (none : A) (rs : List (Row A)) (n : ℕ) (bs : List ℕ) → layout-of n rs ≡ None →
+    read-all (messages none rs from) (n ∷ bs) ≡ Err 0
+read-unknown from none rs n bs e =
+    let z : suc (length bs) - suc (length bs) ≡ 0 = omega arith in
+    rw (no-row (find n rs) e) (ap Err z)
+
+-- what is left after a number, once the fields behind it are read
+closed-behind : {A : Type 0} (to : ℕ × Body → A) (n len : ℕ) (g : Got Body) → ((r : ℕ) → g ≡ lost r → r ≤ len) →
+    ((f : Body) (rest : List ℕ) → g ≡ got f rest → length rest ≤ len) →
+    closed (suc len) (and-then (and-then {B = ℕ × Body} g (λ b end. got (n, b) end)) (λ m rest. got (to m) rest)) ≡ behind-one (λ f. to (n, f)) (closed len g)
+closed-behind to n len (got f []) l h = refl
+closed-behind to n len (got f (b ∷ bs)) l h =
+    let i : suc (length bs) ≤ len = h f (b ∷ bs) refl in
+    ap Err (omega arith)
+closed-behind to n len (lost r) l h = let i : r ≤ len = l r refl in ap Err (omega arith)
+
+-- bytes that begin with a row's number, in terms of what is read of the fields behind it
+pub read-known : {A : Type 0} (from : A → ℕ × Body) (none : A) (rs : List (Row A)) (n : ℕ) (bs : List ℕ) (l : Layout) → Bytes bs →
+    layout-of n rs ≡ Some l → read-all (messages none rs from) (n ∷ bs) ≡ behind-one (made none (find n rs)) (read-all (body l) bs)
+read-known {A} from none rs n bs l t e =
+    let s = some-row (find n rs) l e in
+    let to : ℕ × Body → A = λ m. made none (find (m .0) rs) (m .1) in
+    let law = lawful-body l in
+    let there : isSome (find n rs) ≡ true = ap isSome (s .1) in
+    let its-body : shaped (find n rs) ≡ body l = ap shaped (s .1) ∙ ap body (s .2) in
+    let c = closed-behind to n (length bs) (body l .read bs)
+        (λ r h. let w = law .reached bs r t h in omega (arith, w .2))
+        (λ f rest h. let o = law .only bs f rest t h in omega (arith, ap length (o .1) ∙ length-append (body l .write f) rest)) in
+    let a : read-all (messages none rs from) (n ∷ bs)
+            ≡ closed (suc (length bs)) (and-then (and-then {B = ℕ × Body} (body l .read bs) (λ b end. got (n, b) end)) (λ m rest. got (to m) rest)) =
+        rw (there, its-body) refl in
+    a ∙ c
+
+-- The same of bytes as code has them: the first, and a part with the rest.
+module _ {A B : Type 0} (from : A → ℕ × Body) (none : A) (rs : List (Row A)) (see : B → A) (law : Lawful (messages none rs from))
+    (bs : List ℕ) (typed : (i : ℕ) → getD bs i 0 < 256) where
+
+  pub message-empty : true ≡ eqb (length bs) 0 → Reading (messages none rs from) see bs (Err 0)
+  message-empty e =
+      let none-there : bs ≡ [] = nil-from-length bs (eqb-true _ _ (sym e)) in
+      reading (messages none rs from) see bs (Err 0) law typed (rw none-there refl)
+
+  pub message-unknown : false ≡ eqb (length bs) 0 → None ≡ layout-of (getD bs 0 0) rs → Reading (messages none rs from) see bs (Err 0)
+  message-unknown e o =
+      let split : bs ≡ getD bs 0 0 ∷ drop 1 bs = drop-more bs 0 0 (omega (arith, eqb-false _ _ (sym e))) in
+      reading (messages none rs from) see bs (Err 0) law typed
+          (ap (read-all (messages none rs from)) split ∙ read-unknown from none rs (getD bs 0 0) (drop 1 bs) (sym o))
+
+  pub message-known : {C : Type 0} (l : Layout) (f : C → Body) (r : Result C ℕ) (s : Result B ℕ) → false ≡ eqb (length bs) 0 →
+      Some l ≡ layout-of (getD bs 0 0) rs → read-all (body l) (take (length bs - 1) (drop 1 bs)) ≡ seen f r →
+      behind-one (made none (find (getD bs 0 0) rs)) (seen f r) ≡ seen see s → Reading (messages none rs from) see bs s
+  message-known l f r s e o v w =
+      let split : bs ≡ getD bs 0 0 ∷ drop 1 bs = drop-more bs 0 0 (omega (arith, eqb-false _ _ (sym e))) in
+      let t = all-drop _ 1 bs (all-from-getD (λ b. b < 256) bs 0 (λ i _. typed i)) in
+      reading (messages none rs from) see bs s law typed
+          (ap (read-all (messages none rs from)) split ∙ read-known from none rs (getD bs 0 0) (drop 1 bs) l t (sym o)
+              ∙ ap (λ x. behind-one (made none (find (getD bs 0 0) rs)) (read-all (body l) x)) (sym (take-rest bs 1))
+              ∙ ap (behind-one (made none (find (getD bs 0 0) rs))) v ∙ w)
+
+-- a place in the part behind the number, and one byte more
+pub place-fits-behind : (bs : List ℕ) (l : Layout) (k : ℕ) → false ≡ eqb (length bs) 0 →
+    read-all (body l) (take (length bs - 1) (drop 1 bs)) ≡ Err k → k + 1 ≤ length bs
+place-fits-behind bs l k e h =
+    let rest : List ℕ = take (length bs - 1) (drop 1 bs) in
+    let short : length rest ≤ length bs - 1 = simp length-take (omega arith) in
+    omega (arith, err-within (length rest) (body l .read rest) k h, eqb-false _ _ (sym e))
+
+-- a message that is written by its number, its row's layout and its fields
+pub written-message : {A : Type 0} (from : A → ℕ × Body) (none : A) (rs : List (Row A)) (v : A) (n : ℕ) (f : Body) (l : Layout)
+    (before after : List ℕ) (r : Result ℕ Unwritten) → from v ≡ (n, f) → Some l ≡ layout-of n rs →
+    Written (few (l .list) (length (f .list))) (n ∷ body l .write f) before after r →
+    Written (few-for (find (from v .0) rs) (length (from v .1 .list))) (messages none rs from .write v) before after r
+written-message from none rs v n f l before after r e o w =
+    let s = some-row (find n rs) l (sym o) in
+    let lay : few-for (find n rs) (length (f .list)) ≡ few (l .list) (length (f .list)) =
+        ap (λ x. few-for x (length (f .list))) (s .1) ∙ ap (λ x. few (x .list) (length (f .list))) (s .2) in
+    let its-body : shaped (find n rs) ≡ body l = ap shaped (s .1) ∙ ap body (s .2) in
+    let P : ℕ × Body → Type 0 =
+        λ m. Written (few-for (find (m .0) rs) (length (m .1 .list))) (m .0 ∷ shaped (find (m .0) rs) .write (m .1)) before after r in
+    subst P (sym e) (rw (lay, its-body) w)
 
 -- four numbers of which only some are there
 pub none-there : (ns : List ℕ) → padded 0 .fits ns → 0 ∷ (0 ∷ (0 ∷ (0 ∷ []))) ≡ ns

@@ -16,7 +16,13 @@ use Rattle.fields.specs.declared.values.Numbers.the-variants as numbers
 use Rattle.fields.specs.declared.values.Fields.{Fields}
 use Rattle.fields.specs.declared.values.Shape.{Shape}
 
--- The fields of a call or an answer. Those that its shape lacks are 0: there are always four numbers.
+-- Which fields there are: how many numbers, whether a place, and a list of at most how many numbers.
+pub record Layout : Type 0 where
+  pub numbers : ℕ
+  pub place : Bool
+  pub list : Option ℕ
+
+-- The fields of a call or an answer. Those that its layout lacks are 0: there are always four numbers.
 pub record Body : Type 0 where
   pub numbers : List ℕ
   pub place : model.Place
@@ -40,7 +46,7 @@ from-place w = (w .table ∷ (w .slot ∷ []), rights (w .write) (w .run))
 abbrev pub place : Codec model.Place
 place = via to-place from-place (both (numbers 2) (λ _. byte (λ b. ltb b 4)))
 
--- the place of a shape that has none
+-- the place of a layout that has none
 abbrev pub origin : model.Place
 origin = record { table = 0; slot = 0; write = false; run = false }
 
@@ -56,17 +62,25 @@ abbrev pub list-if : Option ℕ → Codec (List ℕ)
 list-if (Some most) = list most
 list-if None = nothing []
 
+-- whether a list of so many numbers is one of a layout
+abbrev pub few : Option ℕ → ℕ → Bool
+few (Some most) n = leb n most
+few None n = true
+
 abbrev pub to-body : List ℕ × (model.Place × List ℕ) → Body
 to-body v = record { numbers = v .0; place = v .1 .0; list = v .1 .1 }
 
 abbrev pub from-body : Body → List ℕ × (model.Place × List ℕ)
 from-body f = (f .numbers, (f .place, f .list))
 
--- the fields of a shape, one after another
-abbrev pub body : Shape → Codec Body
+-- the fields of a layout, one after another
+abbrev pub body : Layout → Codec Body
 body s = via to-body from-body (both (padded (s .numbers)) (λ _. both (place-if (s .place)) (λ _. list-if (s .list))))
 
 -- what the code's values mean
+abbrev pub layout : Shape → Layout
+layout s = record { numbers = s .numbers; place = s .place; list = s .list }
+
 abbrev pub place-of : Place → model.Place
 place-of w = record { table = w .table; slot = w .slot; write = w .write; run = w .run }
 

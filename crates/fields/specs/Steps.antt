@@ -3,14 +3,14 @@ use mathlib.Core.Path.{_≡_}
 use mathlib.Core.Bool.{Bool, true, false}
 use mathlib.Core.List.{List, _++_}
 use Prim.Native.Nat.{ℕ, _+_, _-_, _≤_, _<_}
-use lib.Dec.{leb}
 use lib.ListN.{length, take, drop}
 use Rattle.std.specs.declared.option.Option.{Option}
 use Rattle.std.specs.declared.option.Option.the-variants.{Some, None}
 use Rattle.std.specs.declared.result.Result.{Result}
 use Rattle.std.specs.declared.result.Result.the-variants.{Ok, Err}
-use Rattle.fields.specs.Codec.{Codec, got, lost}
-use Rattle.fields.specs.Shapes.{list-if}
+use Rattle.std.specs.Results.{Cases}
+use Rattle.fields.specs.Codec.{Codec, got, lost, read-all, Ceases}
+use Rattle.fields.specs.Shapes.{list-if, few}
 use Rattle.fields.specs.declared.reading.Cursor.{Cursor}
 use Rattle.fields.specs.declared.values.Unwritten.{Unwritten}
 use Rattle.fields.specs.declared.values.Unwritten.the-variants.{TooMany, TooShort}
@@ -32,16 +32,17 @@ abbrev pub seen : {A B : Type 0} → (B → A) → Result B ℕ → Result A ℕ
 seen f (Ok v) = Ok (f v)
 seen f (Err k) = Err k
 
+-- All of the bytes were read, as f sees it: the value is the codec's, and the bytes are those that are written for it; or they cease to be
+-- one where the codec says, which is the length of their longest beginning that some value's bytes begin with.
+pub record Reading {A B : Type 0} (c : Codec A) (f : B → A) (bytes : List ℕ) (r : Result B ℕ) : Type 0 where
+  pub value : read-all c bytes ≡ seen f r
+  pub spelling : Cases r (λ v. c .write (f v) ≡ bytes) (λ k. Ceases c bytes k)
+
 -- Bytes written at a place into what a slice held, what it holds then, and where they end.
 pub record Wrote (before after : List ℕ) (at : ℕ) (bytes : List ℕ) (end : ℕ) : Type 0 where
   pub there : after ≡ take at before ++ (bytes ++ drop (at + length bytes) before)
   pub ends : end ≡ at + length bytes
   pub long : length after ≡ length before
-
--- whether a list of so many numbers is one of a shape
-abbrev pub few : Option ℕ → ℕ → Bool
-few (Some most) n = leb n most
-few None n = true
 
 -- how many bytes a list takes, unless it has too many numbers
 abbrev pub Sized : Option ℕ → List ℕ → Option ℕ → Type 0

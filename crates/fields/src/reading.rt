@@ -4,12 +4,9 @@ ghost use lib.ListN.{length, drop};
 ghost use mathlib.Core.Path.{_≡_};
 ghost use Rattle.fields.specs.Bytes.{number-in};
 ghost use Rattle.fields.specs.Codec.{read-all};
-ghost use Rattle.fields.specs.Shapes.{padded, place as place-codec, list as list-codec, place-if, list-if, body, place-of, numbers-of, body-of};
+ghost use Rattle.fields.specs.Shapes.{padded, place as place-codec, list as list-codec, place-if, list-if, body, layout, place-of, numbers-of, body-of};
 ghost use Rattle.fields.specs.Steps.{all-of, Read, seen};
 use crate::values::{Fields, Numbers, Place, Shape};
-
-// The place of a shape that has none.
-const NOWHERE: Place = Place { table: 0, slot: 0, write: false, run: false };
 
 // Bytes, and how far they are read.
 #[derive(Drop)]
@@ -96,7 +93,7 @@ impl<'a> Cursor<'a> {
         if there {
             return self.place();
         }
-        Ok(NOWHERE)
+        Ok(Place::NOWHERE)
     }
 
     fn list_if(&mut self, most: Option<u8>) -> Result<Numbers<'a>, usize>
@@ -112,7 +109,7 @@ impl<'a> Cursor<'a> {
 
 // The fields of a shape, which are all of the bytes, or the place where the bytes cease to be that.
 pub fn read(shape: Shape, bytes: &[u8]) -> Result<Fields<'_>, usize>
-    ensures { λ r. ⌜ read-all (body shape) (now (bytes .entry)) ≡ seen body-of r ⌝ }
+    ensures { λ r. ⌜ read-all (body (layout shape)) (now (bytes .entry)) ≡ seen body-of r ⌝ }
 {
     let mut cursor = Cursor { bytes, at: 0 };
     let numbers = cursor.numbers(shape.numbers)?;

@@ -5,8 +5,8 @@ ghost use mathlib.Core.Bool.{true};
 ghost use mathlib.Core.List.{[], _∷_};
 ghost use mathlib.Core.Path.{_≡_};
 ghost use Rattle.fields.specs.Bytes.{number-bytes, numbers-bytes, numbers-in};
-ghost use Rattle.fields.specs.Shapes.{rights, place as place-codec, list as list-codec, place-if, list-if, body, place-of, numbers-of, body-of};
-ghost use Rattle.fields.specs.Steps.{few, Wrote, Sized, Written};
+ghost use Rattle.fields.specs.Shapes.{few, rights, place as place-codec, list as list-codec, place-if, list-if, body, layout, place-of, numbers-of, body-of};
+ghost use Rattle.fields.specs.Steps.{Wrote, Sized, Written};
 use crate::values::{Fields, Numbers, Place, Shape, Unwritten};
 
 fn put_byte(out: &mut [u8], at: usize, byte: u8) -> usize
@@ -133,7 +133,7 @@ fn list_size(most: Option<u8>, list: Numbers<'_>) -> Option<usize>
 
 // Writes a message: its number, and the fields of a shape. What the shape lacks is left out.
 pub fn write(number: u8, shape: Shape, fields: Fields<'_>, out: &mut [u8]) -> Result<usize, Unwritten>
-    ensures { λ r. ⌜ Written (few (shape .list) (length (body-of (fields .entry) .list))) (number ∷ body shape .write (body-of (fields .entry))) (now (out .entry)) (now (out .exit)) r ⌝ }
+    ensures { λ r. ⌜ Written (few (shape .list) (length (body-of (fields .entry) .list))) (number ∷ body (layout shape) .write (body-of (fields .entry))) (now (out .entry)) (now (out .exit)) r ⌝ }
 {
     let Some(listed) = list_size(shape.list, fields.list) else {
         return Err(Unwritten::TooMany);
