@@ -1,20 +1,19 @@
 -- The bytes of calls keep their promises.
 use mathlib.Core.Path.{_≡_, refl, sym, ap, _∙_}
 use mathlib.Core.List.{List, [], _∷_}
-use Prim.Native.Nat.{ℕ, _≤_, _<_, _^_}
+use Prim.Native.Nat.{ℕ, _≤_}
 use native.Mathlib.Omega.{arith}
 use borrow.Author.Tests.{leb-true}
-use lib.ListN.{length, take}
+use lib.ListN.{length}
 use Rattle.std.specs.shelf.Lists.{All}
 use Rattle.std.specs.shelf.Maps.{nth}
 use Rattle.std.specs.Vec.{listOf}
-use Rattle.std.proofs.shelf.Elements.{all-take}
 use Rattle.fields.specs.Codec.{read-all}
 use Rattle.std.specs.declared.option.Option.{Option}
 use Rattle.std.specs.declared.option.Option.the-variants.{Some, None}
 use Rattle.std.specs.declared.result.Result.the-variants.{Ok}
-use Rattle.fields.specs.Bytes.{Bytes, Wide}
-use Rattle.fields.proofs.Bodies.{place-fits, list-fits}
+use Rattle.fields.specs.Bytes.{Bytes}
+use Rattle.fields.proofs.Bodies.{wide-first, place-fits, list-fits}
 use Rattle.fields.proofs.Lawful.{Lawful, read-back, one-spelling}
 use Rattle.fields.proofs.Rows.{Again, lawful-messages, none-there, one-there, two-there, three-there, four-there, same-body}
 use Rattle.model.specs.Calls as model
@@ -28,27 +27,64 @@ one-or-none (x ∷ (y ∷ l)) h = absurd (omega arith)
 
 -- row by row: the fields of what a row makes are those that it was made of
 rows-again : All (Again parts) table
-rows-again =
-    (λ f g. same-body 0 f _ _ _ (none-there (f .numbers) (g .0 .0)) (sym (g .0 .1 .0)) (sym (g .0 .1 .1)),
-    (λ f g. same-body 1 f _ _ _ (two-there (f .numbers) (g .0 .0)) (sym (g .0 .1 .0)) (sym (g .0 .1 .1)),
-    (λ f g. same-body 2 f _ _ _ (three-there (f .numbers) (g .0 .0)) (sym (g .0 .1 .0)) (sym (g .0 .1 .1)),
-    (λ f g. same-body 3 f _ _ _ (three-there (f .numbers) (g .0 .0)) (sym (g .0 .1 .0)) (sym (g .0 .1 .1)),
-    (λ f g. same-body 4 f _ _ _ (two-there (f .numbers) (g .0 .0)) (refl) (one-or-none (f .list) (leb-true (length (f .list)) 1 (g .0 .1 .1 .0 .0))),
-    (λ f g. same-body 5 f _ _ _ (two-there (f .numbers) (g .0 .0)) (sym (g .0 .1 .0)) (sym (g .0 .1 .1)),
-    (λ f g. same-body 6 f _ _ _ (two-there (f .numbers) (g .0 .0)) (refl) (sym (g .0 .1 .1)),
-    (λ f g. same-body 7 f _ _ _ (one-there (f .numbers) (g .0 .0)) (sym (g .0 .1 .0)) (sym (g .0 .1 .1)),
-    (λ f g. same-body 8 f _ _ _ (one-there (f .numbers) (g .0 .0)) (sym (g .0 .1 .0)) (sym (g .0 .1 .1)),
-    (λ f g. same-body 9 f _ _ _ (one-there (f .numbers) (g .0 .0)) (sym (g .0 .1 .0)) (sym (g .0 .1 .1)),
-    (λ f g. same-body 10 f _ _ _ (four-there (f .numbers) (g .0 .0)) (sym (g .0 .1 .0)) (sym (g .0 .1 .1)),
-    (λ f g. same-body 11 f _ _ _ (one-there (f .numbers) (g .0 .0)) (sym (g .0 .1 .0)) (sym (g .0 .1 .1)),
-    (λ f g. same-body 20 f _ _ _ (one-there (f .numbers) (g .0 .0)) (sym (g .0 .1 .0)) (sym (g .0 .1 .1)),
-    (λ f g. same-body 21 f _ _ _ (none-there (f .numbers) (g .0 .0)) (sym (g .0 .1 .0)) (refl),
-    (λ f g. same-body 22 f _ _ _ (one-there (f .numbers) (g .0 .0)) (sym (g .0 .1 .0)) (sym (g .0 .1 .1)),
-    (λ f g. same-body 23 f _ _ _ (one-there (f .numbers) (g .0 .0)) (refl) (sym (g .0 .1 .1)),
-    (λ f g. same-body 24 f _ _ _ (one-there (f .numbers) (g .0 .0)) (refl) (sym (g .0 .1 .1)),
-    (λ f g. same-body 25 f _ _ _ (two-there (f .numbers) (g .0 .0)) (sym (g .0 .1 .0)) (sym (g .0 .1 .1)),
-    (λ f g. same-body 26 f _ _ _ (none-there (f .numbers) (g .0 .0)) (sym (g .0 .1 .0)) (sym (g .0 .1 .1)),
-    (λ f g. same-body 27 f _ _ _ (one-there (f .numbers) (g .0 .0)) (sym (g .0 .1 .0)) (sym (g .0 .1 .1)), tt))))))))))))))))))))
+rows-again = (
+  λ f g. same-body 0 f _ _ _ (none-there (f .numbers) (g .0 .0)) (sym (g .0 .1 .0)) (sym (g .0 .1 .1)),
+  (
+    λ f g. same-body 1 f _ _ _ (two-there (f .numbers) (g .0 .0)) (sym (g .0 .1 .0)) (sym (g .0 .1 .1)),
+    (
+      λ f g. same-body 2 f _ _ _ (three-there (f .numbers) (g .0 .0)) (sym (g .0 .1 .0)) (sym (g .0 .1 .1)),
+      (
+        λ f g. same-body 3 f _ _ _ (three-there (f .numbers) (g .0 .0)) (sym (g .0 .1 .0)) (sym (g .0 .1 .1)),
+        (
+          λ f g. same-body 4 f _ _ _ (two-there (f .numbers) (g .0 .0)) (refl) (one-or-none (f .list) (leb-true (length (f .list)) 1 (g .0 .1 .1 .0 .0))),
+          (
+            λ f g. same-body 5 f _ _ _ (two-there (f .numbers) (g .0 .0)) (sym (g .0 .1 .0)) (sym (g .0 .1 .1)),
+            (
+              λ f g. same-body 6 f _ _ _ (two-there (f .numbers) (g .0 .0)) (refl) (sym (g .0 .1 .1)),
+              (
+                λ f g. same-body 7 f _ _ _ (one-there (f .numbers) (g .0 .0)) (sym (g .0 .1 .0)) (sym (g .0 .1 .1)),
+                (
+                  λ f g. same-body 8 f _ _ _ (one-there (f .numbers) (g .0 .0)) (sym (g .0 .1 .0)) (sym (g .0 .1 .1)),
+                  (
+                    λ f g. same-body 9 f _ _ _ (one-there (f .numbers) (g .0 .0)) (sym (g .0 .1 .0)) (sym (g .0 .1 .1)),
+                    (
+                      λ f g. same-body 10 f _ _ _ (four-there (f .numbers) (g .0 .0)) (sym (g .0 .1 .0)) (sym (g .0 .1 .1)),
+                      (
+                        λ f g. same-body 11 f _ _ _ (one-there (f .numbers) (g .0 .0)) (sym (g .0 .1 .0)) (sym (g .0 .1 .1)),
+                        (
+                          λ f g. same-body 20 f _ _ _ (one-there (f .numbers) (g .0 .0)) (sym (g .0 .1 .0)) (sym (g .0 .1 .1)),
+                          (
+                            λ f g. same-body 21 f _ _ _ (none-there (f .numbers) (g .0 .0)) (sym (g .0 .1 .0)) (refl),
+                            (
+                              λ f g. same-body 22 f _ _ _ (one-there (f .numbers) (g .0 .0)) (sym (g .0 .1 .0)) (sym (g .0 .1 .1)),
+                              (
+                                λ f g. same-body 23 f _ _ _ (one-there (f .numbers) (g .0 .0)) (refl) (sym (g .0 .1 .1)),
+                                (
+                                  λ f g. same-body 24 f _ _ _ (one-there (f .numbers) (g .0 .0)) (refl) (sym (g .0 .1 .1)),
+                                  (
+                                    λ f g. same-body 25 f _ _ _ (two-there (f .numbers) (g .0 .0)) (sym (g .0 .1 .0)) (sym (g .0 .1 .1)),
+                                    (
+                                      λ f g. same-body 26 f _ _ _ (none-there (f .numbers) (g .0 .0)) (sym (g .0 .1 .0)) (sym (g .0 .1 .1)),
+                                      (λ f g. same-body 27 f _ _ _ (one-there (f .numbers) (g .0 .0)) (sym (g .0 .1 .0)) (sym (g .0 .1 .1)), tt),
+                                    ),
+                                  ),
+                                ),
+                              ),
+                            ),
+                          ),
+                        ),
+                      ),
+                    ),
+                  ),
+                ),
+              ),
+            ),
+          ),
+        ),
+      ),
+    ),
+  ),
+)
 
 pub lawful-calls : Lawful calls
 unfolding calls
@@ -59,10 +95,7 @@ hold-back : (p c : ℕ) (w : Place) (o : Option ℕ) → by-system (hold p c w (
 hold-back p c w None = refl
 hold-back p c w (Some x) = refl
 
-wide-first : (k : ℕ) (ns : List ℕ) → Wide ns → Wide (take k ns)
-wide-first k ns h = all-take (λ n. n < 2 ^ 64) k ns h
-
-pub carries : (c : model.Call) → Carried c → calls .fits c
+carries : (c : model.Call) → Carried c → calls .fits c
 unfolding calls carried
 carries (by-system how-many) h =
     ((refl, ((((refl, wide-first 0 (parts (by-system how-many) .1 .numbers) (h .numbers)), refl), (refl, refl)), refl)), refl)

@@ -3,9 +3,7 @@ use Rattle.model.specs.Calls as model
 use Rattle.fields.specs.Shapes.{place-of, numbers-of}
 use Rattle.std.specs.declared.result.Result.{Result}
 use Rattle.std.specs.declared.result.Result.the-variants.{Ok, Err}
-use mathlib.Core.Bool.{false}
 use Prim.Native.Nat.{ℕ}
-use Rattle.fields.specs.declared.values.Place.{Place}
 use Rattle.calls.specs.declared.call.Call.{Call}
 use Rattle.calls.specs.declared.call.Call.the-variants.{HowMany, NewCell, NewThread, NewTable, Hold, Give, Show, Remove, Seal, Stop, Enter, Resume, Leave, Interrupt, Fault, Grow, Shrink, Extend, Who, Draw}
 
@@ -30,10 +28,6 @@ call-of (Shrink p w) = model.by-cell (model.shrink p (place-of w))
 call-of (Extend p i) = model.by-cell (model.extend p i)
 call-of Who = model.by-cell model.who
 call-of (Draw n) = model.by-cell (model.draw n)
-
--- the place of a call that has none
-abbrev pub nowhere : Place
-nowhere = record { table = 0; slot = 0; write = false; run = false }
 
 -- what a reading came to
 abbrev pub asked : Result Call ℕ → model.Call

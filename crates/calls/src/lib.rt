@@ -3,7 +3,6 @@ mod call;
 mod rows;
 
 pub use call::Call;
-
 ghost use Rattle.fields.specs.Steps.{Reading, Written};
 ghost use Rattle.calls.specs.Table.{calls, carried, write-call};
 ghost use Rattle.calls.specs.Meaning.{call-of};

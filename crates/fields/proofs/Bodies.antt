@@ -9,6 +9,7 @@ use lib.Dec.{ltb, leb, eqb}
 use lib.ListN.{length, getD, take, replicate}
 use Rattle.std.specs.declared.option.Option.{Option}
 use Rattle.std.specs.declared.option.Option.the-variants.{Some, None}
+use Rattle.std.proofs.shelf.Elements.{all-take}
 use Rattle.std.proofs.shelf.Lists.{take-at}
 use Rattle.model.specs.Calls as model
 use Rattle.fields.specs.Bytes.{Wide}
@@ -43,7 +44,7 @@ lawful-place = lawful-via to-place from-place _ (lawful-both (numbers 2) _ (lawf
 pub lawful-list : (most : ℕ) → Lawful (list most)
 lawful-list most =
     lawful-via _ _ _ (lawful-both _ numbers (lawful-byte _ (le-leb 0 most (omega arith))) (λ n _. lawful-numbers n))
-        (λ v f. rw (f .1 .0) refl)
+    (λ v f. rw (f .1 .0) refl)
 
 lawful-place-if : (b : Bool) → Lawful (place-if b)
 lawful-place-if true = lawful-place
@@ -56,11 +57,14 @@ lawful-list-if None = lawful-nothing []
 pub lawful-body : (s : Layout) → Lawful (body s)
 lawful-body s =
     lawful-via to-body from-body _
-        (lawful-both (padded (s .numbers)) _ (lawful-padded (s .numbers))
-            (λ _ _. lawful-both (place-if (s .place)) _ (lawful-place-if (s .place)) (λ _ _. lawful-list-if (s .list))))
-        (λ v f. refl)
+    (lawful-both (padded (s .numbers)) _ (lawful-padded (s .numbers))
+    (λ _ _. lawful-both (place-if (s .place)) _ (lawful-place-if (s .place)) (λ _ _. lawful-list-if (s .list))))
+    (λ v f. refl)
 
--- which places and lists their bytes can carry
+-- which numbers, places and lists their bytes can carry
+pub wide-first : (k : ℕ) (ns : List ℕ) → Wide ns → Wide (take k ns)
+wide-first k ns h = all-take (λ n. n < 2 ^ 64) k ns h
+
 rights-few : (w x : Bool) → rights w x < 4
 rights-few true true = omega arith
 rights-few true false = omega arith

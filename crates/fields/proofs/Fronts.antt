@@ -76,8 +76,12 @@ pub place-bad : (bs : List ℕ) → 17 ≤ length bs → 4 ≤ getD bs 16 0 → 
 place-bad bs h f =
     rw (numbers-there 2 bs (omega arith), byte-at (λ b. ltb b 4) bs 16 (omega arith), le-ltb (getD bs 16 0) 4 f) refl
 
-pub place-there : (bs : List ℕ) → 17 ≤ length bs → getD bs 16 0 < 4 → place .read bs ≡ got (record { table = number-in bs;
-    slot = number-in (drop 8 bs); write = eqb (getD bs 16 0 % 2) 1; run = leb 2 (getD bs 16 0) }) (drop 17 bs)
+pub place-there : (bs : List ℕ) → 17 ≤ length bs → getD bs 16 0 < 4 → place .read bs ≡ got (record {
+  table = number-in bs;
+  slot = number-in (drop 8 bs);
+  write = eqb (getD bs 16 0 % 2) 1;
+  run = leb 2 (getD bs 16 0);
+}) (drop 17 bs)
 unfolding numbers-in
 place-there bs h f =
     rw (numbers-there 2 bs (omega arith), byte-at (λ b. ltb b 4) bs 16 (omega arith), lt-ltb (getD bs 16 0) 4 f) refl
@@ -99,15 +103,27 @@ pub list-there : (most k : ℕ) (bs : List ℕ) → k < length bs → getD bs k 
     list most .read (drop k bs) ≡ got (numbers-in (getD bs k 0) (drop (k + 1) bs)) (drop (k + 1 + 8 * getD bs k 0) bs)
 list-there most k bs h f g =
     let l : 8 * getD bs k 0 ≤ length (drop (k + 1) bs) = rw length-drop (omega arith) in
-    rw (byte-at (λ b. leb b most) bs k h, le-leb (getD bs k 0) most f, numbers-there (getD bs k 0) (drop (k + 1) bs) l,
-        drop-drop (8 * getD bs k 0) (k + 1) bs) refl
+    rw (
+      byte-at (λ b. leb b most) bs k h,
+      le-leb (getD bs k 0) most f,
+      numbers-there (getD bs k 0) (drop (k + 1) bs) l,
+      drop-drop (8 * getD bs k 0) (k + 1) bs,
+    ) refl
 
 -- numbers in a part of bytes that holds just them
 number-take : (k : ℕ) (bs : List ℕ) → number-in (take (8 + k) bs) ≡ number-in bs
 number-take k bs =
     let at : (i : ℕ) → i < 8 → getD (take (8 + k) bs) i 0 ≡ getD bs i 0 = λ i h. getD-take (8 + k) bs i 0 (omega arith) in
-    rw (at 0 (omega arith), at 1 (omega arith), at 2 (omega arith), at 3 (omega arith), at 4 (omega arith), at 5 (omega arith),
-        at 6 (omega arith), at 7 (omega arith)) refl
+    rw (
+      at 0 (omega arith),
+      at 1 (omega arith),
+      at 2 (omega arith),
+      at 3 (omega arith),
+      at 4 (omega arith),
+      at 5 (omega arith),
+      at 6 (omega arith),
+      at 7 (omega arith),
+    ) refl
 
 numbers-take : (n k : ℕ) (bs : List ℕ) → 8 * n ≤ k → numbers-in n (take k bs) ≡ numbers-in n bs
 unfolding numbers-in

@@ -19,10 +19,11 @@ use Rattle.fields.proofs.Lawful.{Lawful, Reached, clash}
 
 pub lawful-nothing : {A : Type 0} (a : A) → Lawful (nothing a)
 lawful-nothing a = record {
-    back = λ v rest f. rw f refl;
-    only = λ bs v rest t e. (cc, cc);
-    reached = λ bs r t e. clash a bs r e;
-    no-more = λ bs r t e. clash a bs r e }
+  back = λ v rest f. rw f refl;
+  only = λ bs v rest t e. (cc, cc);
+  reached = λ bs r t e. clash a bs r e;
+  no-more = λ bs r t e. clash a bs r e;
+}
 
 -- a byte of which 0 passes the test, so that there is one
 byte-back : (test : ℕ → Bool) (b : ℕ) (rest : List ℕ) → test b ≡ true → read-byte test (b ∷ rest) ≡ got b rest
@@ -58,11 +59,12 @@ byte-lost test (b ∷ bs) r e =
 
 pub lawful-byte : (test : ℕ → Bool) → test 0 ≡ true → Lawful (byte test)
 lawful-byte test zero-passes = record {
-    back = byte-back test;
-    only = λ bs v rest t e. byte-only test bs v rest e;
-    reached = λ bs r t e. (0, 0, omega (arith, byte-lost test bs r e .0), zero-passes, begins-none _);
-    no-more = λ bs r t e v more j f h b.
-        let z = byte-lost test bs r e .1 v more j f h b in omega (arith, byte-lost test bs r e .0) }
+  back = byte-back test;
+  only = λ bs v rest t e. byte-only test bs v rest e;
+  reached = λ bs r t e. (0, 0, omega (arith, byte-lost test bs r e .0), zero-passes, begins-none _);
+  no-more = λ bs r t e v more j f h b.
+      let z = byte-lost test bs r e .1 v more j f h b in omega (arith, byte-lost test bs r e .0);
+}
 
 -- a number and its eight bytes
 number-back : (n : ℕ) (rest : List ℕ) → n < 2 ^ 64 → number-in (number-bytes n ++ rest) ≡ n
@@ -131,10 +133,12 @@ numbers-front (suc n) bs t h =
     let l : 8 * n ≤ length (drop 8 bs) = rw length-drop (omega arith) in
     let ih = numbers-front n (drop 8 bs) (all-drop _ 8 bs t) l in
     let e : 8 + 8 * n ≡ 8 * suc n = omega arith in
-    let d : drop (8 * n) (drop 8 bs) ≡ drop (8 * suc n) bs = drop-drop (8 * n) 8 bs ∙ ap (λ k. drop k bs) e in
-    (append-assoc (number-bytes (number-in bs)) (numbers-bytes (numbers-in n (drop 8 bs))) (drop (8 * suc n) bs)
-        ∙ ap (λ x. number-bytes (number-in bs) ++ (numbers-bytes (numbers-in n (drop 8 bs)) ++ x)) (sym d)
-        ∙ ap (λ x. number-bytes (number-in bs) ++ x) (ih .0) ∙ f .0, (f .1, ih .1))
+    let d : drop (8 * n) (drop 8 bs) ≡ drop (8 * suc n) bs = drop-drop (8 * n) 8 bs ∙ ap (λ k. drop k bs) e in (
+      append-assoc (number-bytes (number-in bs)) (numbers-bytes (numbers-in n (drop 8 bs))) (drop (8 * suc n) bs)
+          ∙ ap (λ x. number-bytes (number-in bs) ++ (numbers-bytes (numbers-in n (drop 8 bs)) ++ x)) (sym d)
+          ∙ ap (λ x. number-bytes (number-in bs) ++ x) (ih .0) ∙ f .0,
+      (f .1, ih .1),
+    )
 
 numbers-back : (n : ℕ) (ns rest : List ℕ) → (length ns ≡ n) × Wide ns → numbers n .read (numbers-bytes ns ++ rest) ≡ got ns rest
 numbers-back n ns rest f =
@@ -149,12 +153,14 @@ numbers-only n bs ns rest t e =
     ⊎-elim
     (λ short. clash ns rest 0 (sym (rw (lt-leb (8 * n) (length bs) short) at e)))
     (λ long.
-        let g : got (numbers-in n bs) (drop (8 * n) bs) ≡ got ns rest = rw (le-leb (8 * n) (length bs) long) at e in
-        let f = numbers-front n bs t long in
-        let v : numbers-in n bs ≡ ns = cc in
-        let r : drop (8 * n) bs ≡ rest = cc in
-        ((ap length (sym v) ∙ length-numbers-in n bs, subst Wide v (f .1)), sym (f .0) ∙ ap (λ x. numbers-bytes x ++ drop (8 * n) bs) v
-            ∙ ap (λ x. numbers-bytes ns ++ x) r))
+    let g : got (numbers-in n bs) (drop (8 * n) bs) ≡ got ns rest = rw (le-leb (8 * n) (length bs) long) at e in
+    let f = numbers-front n bs t long in
+    let v : numbers-in n bs ≡ ns = cc in
+    let r : drop (8 * n) bs ≡ rest = cc in (
+      (ap length (sym v) ∙ length-numbers-in n bs, subst Wide v (f .1)),
+      sym (f .0) ∙ ap (λ x. numbers-bytes x ++ drop (8 * n) bs) v
+          ∙ ap (λ x. numbers-bytes ns ++ x) r,
+    ))
     (cases-lt (length bs) (8 * n))
 
 numbers-lost : (n : ℕ) (bs : List ℕ) (r : ℕ) → numbers n .read bs ≡ lost r → (r ≡ 0) × (length bs < 8 * n)
@@ -178,13 +184,18 @@ numbers-reached n bs r t e =
     let f = numbers-front n (bs ++ zs) (all-append _ bs zs t (zero-bytes _)) (omega arith) in
     let none : drop (8 * n) (bs ++ zs) ≡ [] = drop-all (8 * n) (bs ++ zs) (omega arith) in
     let w : numbers-bytes (numbers-in n (bs ++ zs)) ≡ bs ++ zs =
-        sym (append-nil _) ∙ ap (λ x. numbers-bytes (numbers-in n (bs ++ zs)) ++ x) (sym none) ∙ f .0 in
-    (numbers-in n (bs ++ zs), length bs, omega (arith, l .0), (length-numbers-in n (bs ++ zs), f .1),
-        (zs, w ∙ ap (λ x. x ++ zs) (sym (take-all (length bs) bs (omega arith)))))
+    sym (append-nil _) ∙ ap (λ x. numbers-bytes (numbers-in n (bs ++ zs)) ++ x) (sym none) ∙ f .0 in (
+      numbers-in n (bs ++ zs),
+      length bs,
+      omega (arith, l .0),
+      (length-numbers-in n (bs ++ zs), f .1),
+      (zs, w ∙ ap (λ x. x ++ zs) (sym (take-all (length bs) bs (omega arith)))),
+    )
 
 pub lawful-numbers : (n : ℕ) → Lawful (numbers n)
 lawful-numbers n = record {
-    back = numbers-back n;
-    only = numbers-only n;
-    reached = numbers-reached n;
-    no-more = λ bs r t e v more j f h b. omega (arith, numbers-lost n bs r e .0) }
+  back = numbers-back n;
+  only = numbers-only n;
+  reached = numbers-reached n;
+  no-more = λ bs r t e v more j f h b. omega (arith, numbers-lost n bs r e .0);
+}

@@ -30,7 +30,7 @@ pub wrote-part : (a ys bs : List ℕ) (at k e : ℕ) → ys ≡ bs → k ≡ len
 wrote-part a ys bs at k e s n f h =
     let t : putMid at k a ys ≡ take at a ++ (bs ++ drop (at + length bs) a) = rw (s, n, drop-drop (length bs) at a) refl in
     let l : length (take at a ++ (bs ++ drop (at + length bs) a)) ≡ length a =
-        simp (length-append, length-take, length-drop) (omega arith) in
+    simp (length-append, length-take, length-drop) (omega arith) in
     record { there = t; ends = f; long = ap length t ∙ l }
 
 -- and then more behind it
@@ -44,9 +44,9 @@ wrote-more a b c x y at m e v w h =
     let db : drop m b ≡ drop xy a = ap (drop m) eb ∙ drop-at (take at a ++ x) (drop xy a) m lx in
     let lxy : xy + length y ≡ at + length (x ++ y) = simp length-append (omega arith) in
     let dd : drop (m + length y) b ≡ drop (at + length (x ++ y)) a =
-        sym (drop-drop (length y) m b) ∙ ap (drop (length y)) db ∙ drop-drop (length y) xy a ∙ ap (λ k. drop k a) lxy in
+    sym (drop-drop (length y) m b) ∙ ap (drop (length y)) db ∙ drop-drop (length y) xy a ∙ ap (λ k. drop k a) lxy in
     let u : take m b ++ (y ++ drop (m + length y) b) ≡ take at a ++ ((x ++ y) ++ drop (at + length (x ++ y)) a) =
-        rw (tb, dd) (simp append-assoc) in
+    rw (tb, dd) (simp append-assoc) in
     record { there = w .there ∙ u; ends = simp length-append (omega (arith, v .ends, w .ends)); long = w .long ∙ v .long }
 
 -- the same bytes, said otherwise
@@ -66,7 +66,7 @@ unfolding numbers-bytes
 wrote-next a b c ns at m e i h room v w =
     let l : length (numbers-bytes (take i ns)) ≡ 8 * i = length-numbers-bytes _ ∙ ap (λ n. 8 * n) (simp length-take (omega arith)) in
     let t : numbers-bytes (take (i + 1) ns) ≡ numbers-bytes (take i ns) ++ number-bytes (getD ns i 0) =
-        ap numbers-bytes (take-more ns i 0 h) ∙ numbers-bytes-++ (take i ns) (getD ns i 0 ∷ []) in
+    ap numbers-bytes (take-more ns i 0 h) ∙ numbers-bytes-++ (take i ns) (getD ns i 0 ∷ []) in
     wrote-is a c _ _ at e t (wrote-more a b c _ _ at m e v w (omega arith))
 
 pub room-next : (a b ns : List ℕ) (at m i : ℕ) → i < length ns → at + 8 * length ns ≤ length a → Wrote a b at (numbers-bytes (take i ns)) m →
@@ -117,7 +117,7 @@ pub length-message : (s : Shape) (n : ℕ) (f : Body) → length (f .numbers) �
 length-message s n f h =
     let few = s .few in
     let l : length (numbers-bytes (take (s .numbers) (f .numbers))) ≡ 8 * s .numbers =
-        length-numbers-bytes _ ∙ ap (λ k. 8 * k) (simp length-take (omega arith)) in
+    length-numbers-bytes _ ∙ ap (λ k. 8 * k) (simp length-take (omega arith)) in
     simp length-append (omega arith)
 
 pub wrote-message : (s : Shape) (n : ℕ) (f : Body) (a b c d e : List ℕ) (x y z end : ℕ) → length (n ∷ body (layout s) .write f) ≤ length a →

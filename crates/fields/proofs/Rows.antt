@@ -49,7 +49,7 @@ pub lawful-messages : {A : Type 0} (from : A → ℕ × Body) (none : A) (rs : L
     Lawful (messages none rs from)
 lawful-messages from none rs zero-there again =
     lawful-via _ from (message rs) (lawful-both _ _ (lawful-byte _ zero-there) (λ n _. lawful-shaped (find n rs)))
-        (λ m g. found from none rs (m .0) (m .1) again (g .0) (g .1))
+    (λ m g. found from none rs (m .0) (m .1) again (g .0) (g .1))
 
 -- one byte more in front
 abbrev pub behind-one : {A B : Type 0} → (B → A) → Result B ℕ → Result A ℕ
@@ -91,17 +91,16 @@ read-known {A} from none rs n bs l t e =
     let there : isSome (find n rs) ≡ true = ap isSome (s .1) in
     let its-body : shaped (find n rs) ≡ body l = ap shaped (s .1) ∙ ap body (s .2) in
     let c = closed-behind to n (length bs) (body l .read bs)
-        (λ r h. let w = law .reached bs r t h in omega (arith, w .2))
-        (λ f rest h. let o = law .only bs f rest t h in omega (arith, ap length (o .1) ∙ length-append (body l .write f) rest)) in
+    (λ r h. let w = law .reached bs r t h in omega (arith, w .2))
+    (λ f rest h. let o = law .only bs f rest t h in omega (arith, ap length (o .1) ∙ length-append (body l .write f) rest)) in
     let a : read-all (messages none rs from) (n ∷ bs)
-            ≡ closed (suc (length bs)) (and-then (and-then {B = ℕ × Body} (body l .read bs) (λ b end. got (n, b) end)) (λ m rest. got (to m) rest)) =
-        rw (there, its-body) refl in
+    ≡ closed (suc (length bs)) (and-then (and-then {B = ℕ × Body} (body l .read bs) (λ b end. got (n, b) end)) (λ m rest. got (to m) rest)) =
+    rw (there, its-body) refl in
     a ∙ c
 
 -- The same of bytes as code has them: the first, and a part with the rest.
 module _ {A B : Type 0} (from : A → ℕ × Body) (none : A) (rs : List (Row A)) (see : B → A) (law : Lawful (messages none rs from))
     (bs : List ℕ) (typed : (i : ℕ) → getD bs i 0 < 256) where
-
   pub message-empty : true ≡ eqb (length bs) 0 → Reading (messages none rs from) see bs (Err 0)
   message-empty e =
       let none-there : bs ≡ [] = nil-from-length bs (eqb-true _ _ (sym e)) in
@@ -111,7 +110,7 @@ module _ {A B : Type 0} (from : A → ℕ × Body) (none : A) (rs : List (Row A)
   message-unknown e o =
       let split : bs ≡ getD bs 0 0 ∷ drop 1 bs = drop-more bs 0 0 (omega (arith, eqb-false _ _ (sym e))) in
       reading (messages none rs from) see bs (Err 0) law typed
-          (ap (read-all (messages none rs from)) split ∙ read-unknown from none rs (getD bs 0 0) (drop 1 bs) (sym o))
+      (ap (read-all (messages none rs from)) split ∙ read-unknown from none rs (getD bs 0 0) (drop 1 bs) (sym o))
 
   pub message-known : {C : Type 0} (l : Layout) (f : C → Body) (r : Result C ℕ) (s : Result B ℕ) → false ≡ eqb (length bs) 0 →
       Some l ≡ layout-of (getD bs 0 0) rs → read-all (body l) (take (length bs - 1) (drop 1 bs)) ≡ seen f r →
@@ -120,9 +119,9 @@ module _ {A B : Type 0} (from : A → ℕ × Body) (none : A) (rs : List (Row A)
       let split : bs ≡ getD bs 0 0 ∷ drop 1 bs = drop-more bs 0 0 (omega (arith, eqb-false _ _ (sym e))) in
       let t = all-drop _ 1 bs (all-from-getD (λ b. b < 256) bs 0 (λ i _. typed i)) in
       reading (messages none rs from) see bs s law typed
-          (ap (read-all (messages none rs from)) split ∙ read-known from none rs (getD bs 0 0) (drop 1 bs) l t (sym o)
-              ∙ ap (λ x. behind-one (made none (find (getD bs 0 0) rs)) (read-all (body l) x)) (sym (take-rest bs 1))
-              ∙ ap (behind-one (made none (find (getD bs 0 0) rs))) v ∙ w)
+      (ap (read-all (messages none rs from)) split ∙ read-known from none rs (getD bs 0 0) (drop 1 bs) l t (sym o)
+      ∙ ap (λ x. behind-one (made none (find (getD bs 0 0) rs)) (read-all (body l) x)) (sym (take-rest bs 1))
+      ∙ ap (behind-one (made none (find (getD bs 0 0) rs))) v ∙ w)
 
 -- a place in the part behind the number, and one byte more
 pub place-fits-behind : (bs : List ℕ) (l : Layout) (k : ℕ) → false ≡ eqb (length bs) 0 →
@@ -140,10 +139,10 @@ pub written-message : {A : Type 0} (from : A → ℕ × Body) (none : A) (rs : L
 written-message from none rs v n f l before after r e o w =
     let s = some-row (find n rs) l (sym o) in
     let lay : few-for (find n rs) (length (f .list)) ≡ few (l .list) (length (f .list)) =
-        ap (λ x. few-for x (length (f .list))) (s .1) ∙ ap (λ x. few (x .list) (length (f .list))) (s .2) in
+    ap (λ x. few-for x (length (f .list))) (s .1) ∙ ap (λ x. few (x .list) (length (f .list))) (s .2) in
     let its-body : shaped (find n rs) ≡ body l = ap shaped (s .1) ∙ ap body (s .2) in
     let P : ℕ × Body → Type 0 =
-        λ m. Written (few-for (find (m .0) rs) (length (m .1 .list))) (m .0 ∷ shaped (find (m .0) rs) .write (m .1)) before after r in
+    λ m. Written (few-for (find (m .0) rs) (length (m .1 .list))) (m .0 ∷ shaped (find (m .0) rs) .write (m .1)) before after r in
     subst P (sym e) (rw (lay, its-body) w)
 
 -- four numbers of which only some are there

@@ -39,23 +39,26 @@ byte test = record { read = read-byte test; write = λ b. b ∷ []; fits = λ b.
 -- so many numbers of eight bytes
 abbrev pub numbers : ℕ → Codec (List ℕ)
 numbers n = record {
-    read = λ bs. cond (leb (8 * n) (length bs)) (got (numbers-in n bs) (drop (8 * n) bs)) (lost 0);
-    write = numbers-bytes;
-    fits = λ ns. (length ns ≡ n) × Wide ns }
+  read = λ bs. cond (leb (8 * n) (length bs)) (got (numbers-in n bs) (drop (8 * n) bs)) (lost 0);
+  write = numbers-bytes;
+  fits = λ ns. (length ns ≡ n) × Wide ns;
+}
 
 -- one piece and then another, which may depend on the first
 abbrev pub both : {A B : Type 0} → Codec A → (A → Codec B) → Codec (A × B)
 both p q = record {
-    read = λ bs. and-then (p .read bs) (λ a rest. and-then (q a .read rest) (λ b end. got (a, b) end));
-    write = λ v. p .write (v .0) ++ q (v .0) .write (v .1);
-    fits = λ v. p .fits (v .0) × q (v .0) .fits (v .1) }
+  read = λ bs. and-then (p .read bs) (λ a rest. and-then (q a .read rest) (λ b end. got (a, b) end));
+  write = λ v. p .write (v .0) ++ q (v .0) .write (v .1);
+  fits = λ v. p .fits (v .0) × q (v .0) .fits (v .1);
+}
 
 -- the same bytes, for values of another type
 abbrev pub via : {A B : Type 0} → (A → B) → (B → A) → Codec A → Codec B
 via to from c = record {
-    read = λ bs. and-then (c .read bs) (λ a rest. got (to a) rest);
-    write = λ b. c .write (from b);
-    fits = λ b. c .fits (from b) × (to (from b) ≡ b) }
+  read = λ bs. and-then (c .read bs) (λ a rest. got (to a) rest);
+  write = λ b. c .write (from b);
+  fits = λ b. c .fits (from b) × (to (from b) ≡ b);
+}
 
 -- All of the bytes, and no more: the value, or the place where they cease to be one.
 abbrev pub closed : {A : Type 0} → ℕ → Got A → Result A ℕ

@@ -84,6 +84,9 @@ layout s = record { numbers = s .numbers; place = s .place; list = s .list }
 abbrev pub place-of : Place → model.Place
 place-of w = record { table = w .table; slot = w .slot; write = w .write; run = w .run }
 
+abbrev pub nowhere : Place
+nowhere = record { table = 0; slot = 0; write = false; run = false }
+
 abbrev pub numbers-of : Numbers → List ℕ
 numbers-of numbers.None = []
 numbers-of (numbers.One n) = n ∷ []

@@ -5,9 +5,13 @@ mod values;
 mod writing;
 
 pub use reading::read;
-pub use values::{Fields, Numbers, Place, Registers, Shape, Unwritten};
+pub use values::Fields;
+pub use values::Numbers;
+pub use values::Place;
+pub use values::Registers;
+pub use values::Shape;
+pub use values::Unwritten;
 pub use writing::write;
-
 ghost use Rattle.fields.specs.Promises.{Lawful-bodies};
 
 // Every shape's fields are read back as they were written, have one spelling, and cease where they should.

@@ -11,13 +11,21 @@ use crate::values::Numbers;
 fn word_at(words: &[u32], index: usize) -> Option<u64>
     ensures { λ r. ⌜ r ≡ nth (now (words .entry)) index ⌝ }
 {
-    if index < words.len() { Some(words[index] as u64) } else { None }
+    if index < words.len() {
+        Some(words[index] as u64)
+    } else {
+        None
+    }
 }
 
 fn lent_at(bytes: &[u8], index: usize) -> Option<u64>
     ensures { λ r. ⌜ r ≡ nth (numbers-in (length (now (bytes .entry)) / 8) (now (bytes .entry))) index ⌝ }
 {
-    if index < bytes.len() / 8 { Some(number_at(bytes, 8 * index)) } else { None }
+    if index < bytes.len() / 8 {
+        Some(number_at(bytes, 8 * index))
+    } else {
+        None
+    }
 }
 
 impl Numbers<'_> {

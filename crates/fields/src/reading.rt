@@ -6,7 +6,10 @@ ghost use Rattle.fields.specs.Bytes.{number-in};
 ghost use Rattle.fields.specs.Codec.{read-all};
 ghost use Rattle.fields.specs.Shapes.{padded, place as place-codec, list as list-codec, place-if, list-if, body, layout, place-of, numbers-of, body-of};
 ghost use Rattle.fields.specs.Steps.{all-of, Read, seen};
-use crate::values::{Fields, Numbers, Place, Shape};
+use crate::values::Fields;
+use crate::values::Numbers;
+use crate::values::Place;
+use crate::values::Shape;
 
 // Bytes, and how far they are read.
 #[derive(Drop)]
@@ -62,7 +65,12 @@ impl<'a> Cursor<'a> {
         let table = number_at(self.bytes, self.at);
         let slot = number_at(self.bytes, self.at + 8);
         self.at += 17;
-        Ok(Place { table, slot, write: rights % 2 == 1, run: rights >= 2 })
+        Ok(Place {
+            table,
+            slot,
+            write: rights % 2 == 1,
+            run: rights >= 2,
+        })
     }
 
     fn list(&mut self, most: u8) -> Result<Numbers<'a>, usize>
@@ -118,5 +126,9 @@ pub fn read(shape: Shape, bytes: &[u8]) -> Result<Fields<'_>, usize>
     if cursor.at < bytes.len() {
         return Err(cursor.at);
     }
-    Ok(Fields { numbers, place, list })
+    Ok(Fields {
+        numbers,
+        place,
+        list,
+    })
 }

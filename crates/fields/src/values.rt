@@ -12,7 +12,12 @@ pub struct Place {
 
 impl Place {
     // The place of a message that has none.
-    pub const NOWHERE: Place = Place { table: 0, slot: 0, write: false, run: false };
+    pub const NOWHERE: Place = Place {
+        table: 0,
+        slot: 0,
+        write: false,
+        run: false,
+    };
 }
 
 // Thirteen registers, two more, the address of the next instruction, and one of state.

@@ -7,7 +7,11 @@ ghost use mathlib.Core.Path.{_≡_};
 ghost use Rattle.fields.specs.Bytes.{number-bytes, numbers-bytes, numbers-in};
 ghost use Rattle.fields.specs.Shapes.{few, rights, place as place-codec, list as list-codec, place-if, list-if, body, layout, place-of, numbers-of, body-of};
 ghost use Rattle.fields.specs.Steps.{Wrote, Sized, Written};
-use crate::values::{Fields, Numbers, Place, Shape, Unwritten};
+use crate::values::Fields;
+use crate::values::Numbers;
+use crate::values::Place;
+use crate::values::Shape;
+use crate::values::Unwritten;
 
 fn put_byte(out: &mut [u8], at: usize, byte: u8) -> usize
     requires { ⌜ at < length (now out) ⌝ }
@@ -132,7 +136,12 @@ fn list_size(most: Option<u8>, list: Numbers<'_>) -> Option<usize>
 }
 
 // Writes a message: its number, and the fields of a shape. What the shape lacks is left out.
-pub fn write(number: u8, shape: Shape, fields: Fields<'_>, out: &mut [u8]) -> Result<usize, Unwritten>
+pub fn write(
+    number: u8,
+    shape: Shape,
+    fields: Fields<'_>,
+    out: &mut [u8],
+) -> Result<usize, Unwritten>
     ensures { λ r. ⌜ Written (few (shape .list) (length (body-of (fields .entry) .list))) (number ∷ body (layout shape) .write (body-of (fields .entry))) (now (out .entry)) (now (out .exit)) r ⌝ }
 {
     let Some(listed) = list_size(shape.list, fields.list) else {

@@ -11,9 +11,9 @@ pub data Answer : Type 0 where
   refused : Refusal → Answer
   done : Answer
   number : ℕ → Answer
-  enters : ℕ → List ℕ → Answer      -- a cell is entered: its top table's page, and the registers
-  told : ℕ → List ℕ → Answer        -- the cell goes on, told 0 or an error, and numbers
-  left : ℕ → ℕ → Answer             -- back to the system: 0 the cell left, with a number; 1 it was interrupted; 2 a fault, of a kind
+  enters : ℕ → List ℕ → Answer  -- a cell is entered: its top table's page, and the registers
+  told : ℕ → List ℕ → Answer  -- the cell goes on, told 0 or an error, and numbers
+  left : ℕ → ℕ → Answer  -- back to the system: 0 the cell left, with a number; 1 it was interrupted; 2 a fault, of a kind
 
 abbrev pub answer-number : Answer → ℕ
 answer-number (refused r) = 0

@@ -14,29 +14,29 @@ pub record Place : Type 0 where
 
 -- By the system. Closed pages are those that cells are made of; open pages are the system's own, which cells may be shown.
 pub data SystemCall : Type 0 where
-  how-many : SystemCall                                   -- how many closed pages are there?
-  new-cell : ℕ → ℕ → SystemCall                           -- its first page, its top table's page
-  new-thread : ℕ → ℕ → ℕ → SystemCall                     -- page, cell, the address where it starts
-  new-table : ℕ → ℕ → ℕ → SystemCall                      -- page, cell, which place of the top table
-  hold : ℕ → ℕ → Place → Option ℕ → SystemCall            -- page, cell, where it is seen, the open page to copy or none
-  give : ℕ → ℕ → SystemCall                               -- a spare page, to a cell
-  show : ℕ → ℕ → Place → SystemCall                       -- open page, cell, where it is seen
-  remove : ℕ → SystemCall                                 -- a page
-  seal : ℕ → SystemCall                                   -- a cell is built, and may run
-  stop : ℕ → SystemCall                                   -- a cell runs no more, and may be taken apart
-  enter : ℕ → ℕ → ℕ → ℕ → SystemCall                      -- a thread, with three numbers
-  resume : ℕ → SystemCall                                 -- a thread that was interrupted
+  how-many : SystemCall  -- how many closed pages are there?
+  new-cell : ℕ → ℕ → SystemCall  -- its first page, its top table's page
+  new-thread : ℕ → ℕ → ℕ → SystemCall  -- page, cell, the address where it starts
+  new-table : ℕ → ℕ → ℕ → SystemCall  -- page, cell, which place of the top table
+  hold : ℕ → ℕ → Place → Option ℕ → SystemCall  -- page, cell, where it is seen, the open page to copy or none
+  give : ℕ → ℕ → SystemCall  -- a spare page, to a cell
+  show : ℕ → ℕ → Place → SystemCall  -- open page, cell, where it is seen
+  remove : ℕ → SystemCall  -- a page
+  seal : ℕ → SystemCall  -- a cell is built, and may run
+  stop : ℕ → SystemCall  -- a cell runs no more, and may be taken apart
+  enter : ℕ → ℕ → ℕ → ℕ → SystemCall  -- a thread, with three numbers
+  resume : ℕ → SystemCall  -- a thread that was interrupted
 
 -- By the cell that runs, or by the machine when it ends the cell's run.
 pub data CellCall : Type 0 where
-  leave : ℕ → CellCall                                    -- back to the system, with a number
-  interrupt : List ℕ → CellCall                           -- the registers, as they were
-  fault : ℕ → CellCall                                    -- its kind
-  grow : ℕ → Place → CellCall                             -- a spare page of the cell becomes a held one, with zeros
-  shrink : ℕ → Place → CellCall                           -- and the other way
-  extend : ℕ → ℕ → CellCall                               -- a spare page becomes a table, at which place of the top table
-  who : CellCall                                          -- who am I?
-  draw : ℕ → CellCall                                     -- a number that the machine drew
+  leave : ℕ → CellCall  -- back to the system, with a number
+  interrupt : List ℕ → CellCall  -- the registers, as they were
+  fault : ℕ → CellCall  -- its kind
+  grow : ℕ → Place → CellCall  -- a spare page of the cell becomes a held one, with zeros
+  shrink : ℕ → Place → CellCall  -- and the other way
+  extend : ℕ → ℕ → CellCall  -- a spare page becomes a table, at which place of the top table
+  who : CellCall  -- who am I?
+  draw : ℕ → CellCall  -- a number that the machine drew
 
 -- Everything that can be asked: bytes that are no call too, with the place where they cease to be one.
 pub data Call : Type 0 where

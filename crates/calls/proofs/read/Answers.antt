@@ -15,29 +15,32 @@ pub returns-then-is-empty : need.returns-then-is-empty
 unfolding calls
 returns-then-is-empty c =
     message-empty parts (garbled 0) table call-of lawful-calls (c .args .bytes .now) (λ i. omega (arith, c .typed .bytes i))
-        (c .if-is-empty .ensures tt)
+    (c .if-is-empty .ensures tt)
 
 pub returns-in-rest : need.returns-in-rest
 unfolding calls
 returns-in-rest c =
     message-unknown parts (garbled 0) table call-of lawful-calls (c .args .bytes .now) (λ i. omega (arith, c .typed .bytes i))
-        (c .if-is-empty .ensures tt) (c .in-rest .ensures tt)
+    (c .if-is-empty .ensures tt) (c .in-rest .ensures tt)
 
 pub add-result : need.add-result
 add-result c =
-    omega (arith, place-fits-behind (c .args .bytes .now) (layout (c .in-Some .shape)) (c .in-Err .place) (c .if-is-empty .ensures tt)
-        (c .in-Err .ensures tt))
+    omega (
+      arith,
+      place-fits-behind (c .args .bytes .now) (layout (c .in-Some .shape)) (c .in-Err .place) (c .if-is-empty .ensures tt)
+          (c .in-Err .ensures tt),
+    )
 
 pub returns-in-Ok : need.returns-in-Ok
 unfolding calls
 returns-in-Ok c =
     message-known parts (garbled 0) table call-of lawful-calls (c .args .bytes .now) (λ i. omega (arith, c .typed .bytes i))
-        (layout (c .in-Some .shape)) body-of (Ok (c .in-Ok .fields)) (Ok (c .call-from .result)) (c .if-is-empty .ensures tt)
-        (c .in-Some .ensures tt) (c .in-Ok .ensures tt) (ap Ok (sym (c .call-from .ensures)))
+    (layout (c .in-Some .shape)) body-of (Ok (c .in-Ok .fields)) (Ok (c .call-from .result)) (c .if-is-empty .ensures tt)
+    (c .in-Some .ensures tt) (c .in-Ok .ensures tt) (ap Ok (sym (c .call-from .ensures)))
 
 pub returns-in-Err : need.returns-in-Err
 unfolding calls
 returns-in-Err c =
     message-known parts (garbled 0) table call-of lawful-calls (c .args .bytes .now) (λ i. omega (arith, c .typed .bytes i))
-        (layout (c .in-Some .shape)) body-of (Err (c .in-Err .place)) (Err (c .in-Err .place + 1)) (c .if-is-empty .ensures tt)
-        (c .in-Some .ensures tt) (c .in-Err .ensures tt) refl
+    (layout (c .in-Some .shape)) body-of (Err (c .in-Err .place)) (Err (c .in-Err .place + 1)) (c .if-is-empty .ensures tt)
+    (c .in-Some .ensures tt) (c .in-Err .ensures tt) refl

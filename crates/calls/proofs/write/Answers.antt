@@ -9,5 +9,5 @@ pub returns : need.returns
 unfolding carried write-call calls
 returns c =
     written-message parts (garbled 0) table (call-of (c .args .call)) (c .parts-of-parts .result .number)
-        (body-of (c .parts-of-parts .result .fields)) (layout (c .in-Some .shape)) (c .args .out .now) (c .write .last .out) (c .write .result)
-        (c .parts-of-parts .ensures) (c .in-Some .ensures tt) (c .write .ensures)
+    (body-of (c .parts-of-parts .result .fields)) (layout (c .in-Some .shape)) (c .args .out .now) (c .write .last .out) (c .write .result)
+    (c .parts-of-parts .ensures) (c .in-Some .ensures tt) (c .write .ensures)

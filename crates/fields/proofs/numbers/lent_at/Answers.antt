@@ -11,9 +11,9 @@ use Rattle.fields.proofs.numbers.lent_at.Needs as need
 pub returns-then-index-bytes : need.returns-then-index-bytes
 returns-then-index-bytes c =
     ap Some (c .number-at .ensures)
-        ∙ sym (number-of-numbers (length (c .args .bytes .now) / 8) (c .args .index) (c .args .bytes .now) (c .if-index-bytes .taken))
+    ∙ sym (number-of-numbers (length (c .args .bytes .now) / 8) (c .args .index) (c .args .bytes .now) (c .if-index-bytes .taken))
 
 pub returns-else-index-bytes : need.returns-else-index-bytes
 returns-else-index-bytes c =
     sym (nth-past _ (c .args .index)
-        (omega (arith, length-numbers-in (length (c .args .bytes .now) / 8) (c .args .bytes .now), c .if-index-bytes .left)))
+    (omega (arith, length-numbers-in (length (c .args .bytes .now) / 8) (c .args .bytes .now), c .if-index-bytes .left)))

@@ -13,5 +13,5 @@ returns c =
     let z : size - 0 ≡ size = omega arith in
     let copied : c .copy-from-slice .last .self ≡ take size bs = c .copy-from-slice .ensures .after ∙ ap (λ k. take k bs) z in
     wrote-is _ _ (take size bs) _ _ _ (lent-bytes bs (λ i. omega (arith, c .typed .bytes i)))
-        (wrote-part (c .args .out .now) (c .copy-from-slice .last .self) (take size bs) (c .args .at) _ _ copied
-            (simp length-take (omega arith)) (simp length-take (omega arith)) (simp length-take (omega arith)))
+    (wrote-part (c .args .out .now) (c .copy-from-slice .last .self) (take size bs) (c .args .at) _ _ copied
+    (simp length-take (omega arith)) (simp length-take (omega arith)) (simp length-take (omega arith)))

@@ -7,4 +7,4 @@ use Rattle.fields.proofs.writing.put_number.Needs as need
 pub returns : need.returns
 returns c =
     wrote-part (c .args .out .now) (c .copy-from-slice .last .self) (number-bytes (c .args .number)) (c .args .at) _ _
-        (c .copy-from-slice .ensures .after ∙ c .to-le-bytes .ensures) (omega arith) refl (omega arith)
+    (c .copy-from-slice .ensures .after ∙ c .to-le-bytes .ensures) (omega arith) refl (omega arith)

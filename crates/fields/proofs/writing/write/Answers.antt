@@ -32,9 +32,20 @@ pub put-list-if-requires : need.put-list-if-requires
 put-list-if-requires c κs =
     let few : c .args .shape .numbers ≤ length (c .args .fields .numbers) = omega arith in
     let n = wrote-first _ _ (c .args .fields .numbers) (c .args .shape .numbers) _ _ few (c .put-numbers-at .ensures) in
-    let p = c .put-place-if-at .ensures in
-    (omega (arith, n .1, c .put-byte-at .ensures .ends, c .put-byte-at .ensures .long, c .put-numbers-at .ensures .long, c .place-size .ensures,
-        p .ends, p .long, c .in-Some .ensures tt .1), c .in-Some .ensures tt .0)
+    let p = c .put-place-if-at .ensures in (
+      omega (
+        arith,
+        n .1,
+        c .put-byte-at .ensures .ends,
+        c .put-byte-at .ensures .long,
+        c .put-numbers-at .ensures .long,
+        c .place-size .ensures,
+        p .ends,
+        p .long,
+        c .in-Some .ensures tt .1,
+      ),
+      c .in-Some .ensures tt .0,
+    )
 
 pub returns : need.returns
 returns c =
@@ -43,7 +54,7 @@ returns c =
     let n = wrote-first _ _ (c .args .fields .numbers) (c .args .shape .numbers) _ _ few (c .put-numbers-at .ensures) in
     let l = length-message (c .args .shape) (c .args .number) (body-of (c .args .fields)) four in
     let w = wrote-message (c .args .shape) (c .args .number) (body-of (c .args .fields)) (c .args .out .now) (c .put-byte-at .last .out)
-        (c .put-numbers-at .last .out) (c .put-place-if-at .last .out) (c .put-list-if .last .out) _ _ _ _
-        (omega (arith, l, c .place-size .ensures, c .in-Some .ensures tt .1))
-        (c .put-byte-at .ensures) (n .0) (c .put-place-if-at .ensures) (c .put-list-if .ensures) in
+    (c .put-numbers-at .last .out) (c .put-place-if-at .last .out) (c .put-list-if .last .out) _ _ _ _
+    (omega (arith, l, c .place-size .ensures, c .in-Some .ensures tt .1))
+    (c .put-byte-at .ensures) (n .0) (c .put-place-if-at .ensures) (c .put-list-if .ensures) in
     (c .in-Some .ensures tt .0, w .0, w .1)
