@@ -1,15 +1,18 @@
 -- The bytes of answers keep their promises.
 use mathlib.Core.Path.{_≡_, refl, sym}
 use mathlib.Core.List.{List}
-use Prim.Native.Nat.{ℕ}
+use mathlib.Core.Bool.{true}
+use Prim.Native.Nat.{ℕ, _≤_}
+use native.Mathlib.Omega.{arith}
+use lib.ListN.{length}
 use Rattle.std.specs.shelf.Lists.{All}
 use Rattle.std.specs.declared.result.Result.the-variants.{Ok}
-use Rattle.fields.specs.Bytes.{Bytes}
+use Rattle.fields.specs.Bytes.{Bytes, numbers-bytes}
 use Rattle.fields.specs.Codec.{read-all}
 use Rattle.fields.proofs.Bodies.{wide-first, list-fits}
 use Rattle.fields.proofs.Lawful.{Lawful, read-back, one-spelling}
 use Rattle.fields.proofs.Rows.{Again, lawful-messages, none-there, one-there, two-there, same-body}
-use Rattle.model.specs.Answers.{Answer, refused, done, number, enters, told, left}
+use Rattle.model.specs.Answers.{Answer, refused, done, number, enters, told, left, to-system}
 use Rattle.answers.specs.Table.{table, parts, answers, carried, Carried, write-answer}
 
 -- row by row: the fields of what a row makes are those that it was made of
@@ -51,3 +54,12 @@ answers-back a h = read-back answers lawful-answers a (carries a h)
 pub answers-only : (bs : List ℕ) (a : Answer) → Bytes bs → read-all answers bs ≡ Ok a → write-answer a ≡ bs
 unfolding write-answer
 answers-only bs a t e = one-spelling answers lawful-answers bs a t e .1
+
+pub answers-brief : (a : Answer) → (carried (to-system a) ≡ true) × (length (write-answer (to-system a)) ≤ 17)
+unfolding carried write-answer answers numbers-bytes
+answers-brief (refused r) = (refl, omega arith)
+answers-brief done = (refl, omega arith)
+answers-brief (number n) = (refl, omega arith)
+answers-brief (enters t rs) = (refl, omega arith)
+answers-brief (told e ns) = (refl, omega arith)
+answers-brief (left j n) = (refl, omega arith)

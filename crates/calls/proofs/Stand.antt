@@ -11,7 +11,11 @@ use Rattle.std.specs.Vec.{listOf}
 use Rattle.fields.specs.Codec.{read-all}
 use Rattle.std.specs.declared.option.Option.{Option}
 use Rattle.std.specs.declared.option.Option.the-variants.{Some, None}
-use Rattle.std.specs.declared.result.Result.the-variants.{Ok}
+use Rattle.std.specs.declared.result.Result.{Result}
+use Rattle.std.specs.declared.result.Result.the-variants.{Ok, Err}
+use Rattle.fields.specs.Steps.{Reading}
+use Rattle.calls.specs.Meaning.{call-of, asked}
+use Rattle.calls.specs.declared.call.Call.{Call}
 use Rattle.fields.specs.Bytes.{Bytes}
 use Rattle.fields.proofs.Bodies.{wide-first, place-fits, list-fits}
 use Rattle.fields.proofs.Lawful.{Lawful, read-back, one-spelling}
@@ -146,3 +150,9 @@ calls-back c h = rw (read-back calls lawful-calls c (carries c h)) refl
 pub calls-only : (bs : List ℕ) (c : model.Call) → Bytes bs → read-all calls bs ≡ Ok c → write-call c ≡ bs
 unfolding write-call
 calls-only bs c t e = one-spelling calls lawful-calls bs c t e .1
+
+-- a reading, as the call that was asked
+pub asked-is : (bs : List ℕ) (r : Result Call ℕ) → Reading calls call-of bs r → read-call bs ≡ asked r
+unfolding read-call
+asked-is bs (Ok c) h = rw (h .value) refl
+asked-is bs (Err k) h = rw (h .value) refl
