@@ -17,12 +17,14 @@ answer pages (by-system c) = cond (eqb (system-number c) 0) (number pages) (refu
 answer pages (by-cell c) = refusing 2 0
 answer pages (garbled k) = refusing 1 k
 
--- Limits that are in range, with slices that fit them: closed pages from 2 to 4,096, open pages up to 1,048,576; the monitor's memory has a
--- header of 256 numbers, and 2,048 for each closed page; a page has 1,024 words.
+-- limits that are in range: closed pages from 2 to 4,096, open pages up to 1,048,576
+abbrev pub good-limits : ℕ → ℕ → Bool
+good-limits pages opens = leb 2 pages && (leb pages 4096 && leb opens 1048576)
+
+-- and with slices that fit them: the monitor's memory has a header of 256 numbers, and 2,048 for each closed page; a page has 1,024 words
 abbrev pub fitting : ℕ → ℕ → ℕ → ℕ → ℕ → Bool
 fitting pages opens memory inside outside =
-    leb 2 pages && (leb pages 4096 && (leb opens 1048576
-    && (eqb memory (256 + 2048 * pages) && (eqb inside (1024 * pages) && eqb outside (1024 * opens)))))
+    good-limits pages opens && (eqb memory (256 + 2048 * pages) && (eqb inside (1024 * pages) && eqb outside (1024 * opens)))
 
 -- when it is opened: in its header how many closed and open pages there are, and zeros
 abbrev pub opened : ℕ → ℕ → List ℕ

@@ -7,26 +7,33 @@ ghost use Rattle.std.specs.Results.{Cases};
 ghost use Rattle.answers.specs.Meaning.{answer-of, refusal-of};
 ghost use Rattle.calls.specs.Meaning.{call-of};
 ghost use Rattle.calls.specs.Table.{read-call};
-ghost use Rattle.monitor.specs.Stage.{answer as stage-answer, fitting, refusing};
+ghost use Rattle.monitor.specs.Stage.{answer as stage-answer, good-limits, fitting, refusing};
 ghost use Rattle.monitor.specs.Called.{Called, Opened};
+
 mod values;
 
-pub use values::{Limits, Reply};
-
-use answers::{Answer, Refusal};
+use answers::Answer;
+use answers::Refusal;
 use calls::Call;
 use fields::Unwritten;
+pub use values::Limits;
+pub use values::Reply;
 
 // The longest answer that the system is told.
 const LONGEST: usize = 17;
+
+// Whether there are from 2 to 4,096 closed pages, and at most 1,048,576 open ones.
+pub fn in_range(limits: Limits) -> bool
+    ensures { λ r. ⌜ r ≡ good-limits (limits .closed) (limits .«open») ⌝ }
+{
+    limits.closed >= 2 && limits.closed <= 4096 && limits.open <= 1048576
+}
 
 // Whether limits are in range, and the lengths of slices fit them.
 fn fits(limits: Limits, memory: usize, closed: usize, open: usize) -> bool
     ensures { λ r. ⌜ r ≡ fitting (limits .closed) (limits .«open») memory closed «open» ⌝ }
 {
-    limits.closed >= 2
-        && limits.closed <= 4096
-        && limits.open <= 1048576
+    in_range(limits)
         && memory as u64 == 256 + 2048 * limits.closed
         && closed as u64 == 1024 * limits.closed
         && open as u64 == 1024 * limits.open
@@ -47,7 +54,10 @@ pub fn open(limits: Limits, memory: &mut [u64], closed: &[u32], open: &[u32]) ->
     ensures { λ r. ⌜ Opened (limits .closed) (limits .«open») (length (now (closed .entry))) (length (now («open» .entry))) (now (memory .entry)) (now (memory .exit)) r ⌝ }
 {
     if !fits(limits, memory.len(), closed.len(), open.len()) {
-        return Err(Refusal { number: 2, place: 0 });
+        return Err(Refusal {
+            number: 2,
+            place: 0,
+        });
     }
     clear(memory);
     memory[0] = limits.closed;
@@ -59,7 +69,9 @@ pub fn open(limits: Limits, memory: &mut [u64], closed: &[u32], open: &[u32]) ->
 fn refused(number: u64) -> Answer<'static>
     ensures { λ r. ⌜ answer-of r ≡ refusing number 0 ⌝ }
 {
-    Answer::Refused { refusal: Refusal { number, place: 0 } }
+    Answer::Refused {
+        refusal: Refusal { number, place: 0 },
+    }
 }
 
 // A call that is one, taken if this stage has it.
@@ -77,12 +89,23 @@ fn answer(pages: u64, bytes: &[u8]) -> Answer<'static>
 {
     match calls::read(bytes) {
         Ok(call) => taken(pages, call),
-        Err(place) => Answer::Refused { refusal: Refusal { number: 1, place: place as u64 } },
+        Err(place) => Answer::Refused {
+            refusal: Refusal {
+                number: 1,
+                place: place as u64,
+            },
+        },
     }
 }
 
 // Takes a call, or refuses it. What the system is told is written at the front of `told`.
-pub fn call(memory: &mut [u64], closed: &mut [u32], open: &[u32], bytes: &[u8], told: &mut [u8]) -> Result<Reply, Unwritten>
+pub fn call(
+    memory: &mut [u64],
+    closed: &mut [u32],
+    open: &[u32],
+    bytes: &[u8],
+    told: &mut [u8],
+) -> Result<Reply, Unwritten>
     requires { ⌜ 256 ≤ length (now memory) ⌝ }
     ensures reply { λ r. ⌜ Called (stage-answer (getD (now (memory .entry)) 0 0) (read-call (now (bytes .entry)))) (now (told .entry)) (now (told .exit)) r ⌝ }
     ensures memory { λ _. ⌜ now (memory .exit) ≡ now (memory .entry) ⌝ }

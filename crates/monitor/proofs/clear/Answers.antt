@@ -18,5 +18,5 @@ pub returns : need.returns
 returns c =
     let all : c .loop-i .i ≡ length (c .args .words .now) = omega arith in
     c .loop-i .inv ∙ ap (λ k. replicate k 0 ++ drop k (c .args .words .now)) all
-        ∙ ap (λ t. replicate (length (c .args .words .now)) 0 ++ t) (drop-all _ (c .args .words .now) (omega arith))
-        ∙ append-nil (replicate (length (c .args .words .now)) 0)
+    ∙ ap (λ t. replicate (length (c .args .words .now)) 0 ++ t) (drop-all _ (c .args .words .now) (omega arith))
+    ∙ append-nil (replicate (length (c .args .words .now)) 0)

@@ -4,10 +4,10 @@ use mathlib.Core.List.{List, [], _∷_}
 use Prim.Native.Nat.{ℕ, zero, suc, _+_, _*_, _-_, _≤_}
 use native.Mathlib.Omega.{arith}
 use borrow.Author.Tests.{eqb-true}
-use lib.Dec.{eqb, leb}
+use lib.Dec.{eqb}
 use lib.ListN.{length, set, replicate}
 use Rattle.std.proofs.shelf.Tests.{and-parts}
-use Rattle.monitor.specs.Stage.{fitting, opened}
+use Rattle.monitor.specs.Stage.{good-limits, fitting, opened}
 use Rattle.monitor.proofs.open.Needs as need
 
 -- memory of the right length, cleared, with two words of header
@@ -18,18 +18,18 @@ header n a b =
 
 long : (p o m i x : ℕ) → fitting p o m i x ≡ true → m ≡ 256 + 2048 * p
 long p o m i x h =
-    let a = and-parts (leb 2 p) _ h in
-    let b = and-parts (leb p 4096) _ (a .1) in
-    let c = and-parts (leb o 1048576) _ (b .1) in
-    let d = and-parts (eqb m (256 + 2048 * p)) _ (c .1) in
-    eqb-true m (256 + 2048 * p) (d .0)
+    let a = and-parts (good-limits p o) _ h in
+    let b = and-parts (eqb m (256 + 2048 * p)) _ (a .1) in
+    eqb-true m (256 + 2048 * p) (b .0)
 
 pub returns : need.returns
 returns c =
     let p : ℕ = c .args .limits .closed in
     let m : ℕ = length (c .args .memory .now) in
     let f : fitting p (c .args .limits .open) m (length (c .args .closed .now)) (length (c .args .open .now)) ≡ true =
-        sym (c .if-not-fits .ensures tt) in
-    let l : m ≡ 2 + (254 + 2048 * p) = omega (arith, long p _ m _ _ f) in
-    (f, ap (λ ws. set (set ws 0 p) 1 (c .args .limits .open)) (c .clear .ensures ∙ ap (λ k. replicate k 0) l)
-        ∙ header (254 + 2048 * p) p (c .args .limits .open))
+    sym (c .if-not-fits .ensures tt) in
+    let l : m ≡ 2 + (254 + 2048 * p) = omega (arith, long p _ m _ _ f) in (
+      f,
+      ap (λ ws. set (set ws 0 p) 1 (c .args .limits .open)) (c .clear .ensures ∙ ap (λ k. replicate k 0) l)
+          ∙ header (254 + 2048 * p) p (c .args .limits .open),
+    )
