@@ -1,0 +1,4 @@
+pub mod Sha
+pub mod Words
+pub mod Window
+pub mod Measures

@@ -1,0 +1,8 @@
+use mathlib.Core.Path.{refl}
+use Rattle.sha256.specs.Sha.{sha256, hashed, compressed, rounds, extended, big-endian-words}
+use Rattle.sha256.specs.Words.{bytes-of, words-of}
+use Rattle.sha256_callers.proofs.standard.known_name.Needs as need
+
+pub returns : need.returns
+unfolding sha256 hashed compressed rounds extended big-endian-words bytes-of words-of
+returns c = refl
