@@ -3,6 +3,7 @@ mod call;
 mod rows;
 
 pub use call::Call;
+pub use rows::call_from;
 ghost use Rattle.fields.specs.Steps.{Reading, Written};
 ghost use Rattle.calls.specs.Table.{calls, carried, write-call};
 ghost use Rattle.calls.specs.Meaning.{call-of};

@@ -4,4 +4,4 @@ pub mod Pieces
 pub mod Bodies
 pub mod Rows
 mod Fronts
-mod Puts
+pub mod Puts

@@ -1,0 +1,5 @@
+pub mod Cuts
+pub mod Figures
+pub mod Series
+pub mod Standing
+pub mod Trying
