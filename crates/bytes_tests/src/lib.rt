@@ -1,4 +1,4 @@
-// The bytes of calls and answers, against values that are written out.
+// The bytes of calls and answers, and what the monitor makes of them, against values that are written out.
 #[cfg(test)]
 mod tests {
     use answers::Answer;
@@ -7,6 +7,7 @@ mod tests {
     use fields::Numbers;
     use fields::Place;
     use fields::Registers;
+    use monitor::Limits;
     use std::test::*;
 
     // 8, 7, .. 1, from the high byte down
@@ -489,6 +490,60 @@ mod tests {
         check(count == 138)?;
         check(out[0] == 21 && out[1] == 17 && out[2] == 7 && out[3] == 0)?;
         check(out[130] == 3 && out[131] == 2 && out[132] == 1 && out[133] == 0)
+    }
+
+    // What the system is told of the row's call in this stage: how many pages there are, or that the call is refused by 2.
+    fn told_bytes(row: u8) -> &'static [u8] {
+        match row {
+            0 => &[2, 6, 0, 0, 0, 0, 0, 0, 0],
+            _ => &[0, 2, 0, 0, 0, 0, 0, 0, 0, 0, 0, 0, 0, 0, 0, 0, 0],
+        }
+    }
+
+    // Each call through the public call, from its bytes to what the system is told.
+    #[test]
+    fn through_the_monitor(rt: LibcRuntime) -> Result<(), Fail> {
+        let Ok(mut session) = session::open(rt.alloc(), Limits { closed: 6, open: 3 }) else {
+            return Err(Fail::new("not opened"));
+        };
+        for row in 0..22u8 {
+            let mut told = [0u8; 17];
+            let Ok(reply) = session.call(call_bytes(row), &mut told) else {
+                return Err(Fail::new("not answered"));
+            };
+            check(is(&told, reply.told, told_bytes(row)))?;
+        }
+        let mut told = [0u8; 17];
+        let Ok(reply) = session.call(&[7, 1, 2], &mut told) else {
+            return Err(Fail::new("not answered"));
+        };
+        check(is(
+            &told,
+            reply.told,
+            &[0, 1, 0, 0, 0, 0, 0, 0, 0, 3, 0, 0, 0, 0, 0, 0, 0],
+        ))?;
+        let mut short = [0u8; 16];
+        check(session.call(&[0], &mut short).is_err())
+    }
+
+    #[test]
+    fn limits(rt: LibcRuntime) -> Result<(), Fail> {
+        check(session::open(rt.alloc(), Limits { closed: 1, open: 0 }).is_err())?;
+        check(session::open(
+            rt.alloc(),
+            Limits {
+                closed: 4097,
+                open: 0,
+            },
+        ).is_err())?;
+        check(session::open(
+            rt.alloc(),
+            Limits {
+                closed: 2,
+                open: 1048577,
+            },
+        ).is_err())?;
+        check(session::open(rt.alloc(), Limits { closed: 2, open: 0 }).is_ok())
     }
 
     #[test]
