@@ -1,2 +1,17 @@
 pub mod Calls
 pub mod Answers
+pub mod Measured
+pub mod Pages
+pub mod State
+pub mod Refusals
+pub mod Monitor
+pub mod Machine
+pub mod Worlds
+pub mod Observers
+pub mod Events
+pub mod Invariant
+pub mod Builds
+pub mod Processor
+pub mod OneCell
+pub mod Changes
+pub mod Promises
