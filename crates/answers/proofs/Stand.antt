@@ -1,38 +1,25 @@
 -- The bytes of answers keep their promises.
 use mathlib.Core.Path.{_≡_, refl, sym}
 use mathlib.Core.List.{List}
-use mathlib.Core.Bool.{true}
+use mathlib.Core.Bool.{true, false}
 use Prim.Native.Nat.{ℕ, _≤_}
 use native.Mathlib.Omega.{arith}
 use lib.ListN.{length}
 use Rattle.std.specs.shelf.Lists.{All}
+use Rattle.std.specs.declared.option.Option.the-variants.{Some, None}
 use Rattle.std.specs.declared.result.Result.the-variants.{Ok}
 use Rattle.fields.specs.Bytes.{Bytes, numbers-bytes}
 use Rattle.fields.specs.Codec.{read-all}
-use Rattle.fields.proofs.Bodies.{wide-first, list-fits}
+use Rattle.fields.proofs.Bodies.{list-fits}
 use Rattle.fields.proofs.Lawful.{Lawful, read-back, one-spelling}
-use Rattle.fields.proofs.Rows.{Again, lawful-messages, none-there, one-there, two-there, same-body}
+use Rattle.fields.proofs.Rows.{Again, lawful-messages, no-numbers, one-number, two-numbers, one-and-list, fields-fit, _also_}
 use Rattle.model.specs.Answers.{Answer, refused, done, number, enters, told, left, to-system}
 use Rattle.answers.specs.Table.{table, parts, answers, carried, Carried, write-answer}
 
 -- row by row: the fields of what a row makes are those that it was made of
 rows-again : All (Again parts) table
-rows-again = (
-  λ f g. same-body 0 f _ _ _ (two-there (f .numbers) (g .0 .0)) (sym (g .0 .1 .0)) (sym (g .0 .1 .1)),
-  (
-    λ f g. same-body 1 f _ _ _ (none-there (f .numbers) (g .0 .0)) (sym (g .0 .1 .0)) (sym (g .0 .1 .1)),
-    (
-      λ f g. same-body 2 f _ _ _ (one-there (f .numbers) (g .0 .0)) (sym (g .0 .1 .0)) (sym (g .0 .1 .1)),
-      (
-        λ f g. same-body 3 f _ _ _ (one-there (f .numbers) (g .0 .0)) (sym (g .0 .1 .0)) (refl),
-        (
-          λ f g. same-body 4 f _ _ _ (one-there (f .numbers) (g .0 .0)) (sym (g .0 .1 .0)) (refl),
-          (λ f g. same-body 5 f _ _ _ (two-there (f .numbers) (g .0 .0)) (sym (g .0 .1 .0)) (sym (g .0 .1 .1)), tt),
-        ),
-      ),
-    ),
-  ),
-)
+rows-again =
+    two-numbers 0 also no-numbers 1 also one-number 2 also one-and-list 255 3 also one-and-list 255 4 also two-numbers 5 also tt
 
 pub lawful-answers : Lawful answers
 unfolding answers
@@ -40,12 +27,12 @@ lawful-answers = lawful-messages parts done table refl rows-again
 
 carries : (a : Answer) → Carried a → answers .fits a
 unfolding answers carried
-carries (refused r) h = ((refl, ((((refl, wide-first 2 (parts (refused r) .1 .numbers) (h .numbers)), refl), (refl, refl)), refl)), refl)
-carries done h = ((refl, ((((refl, wide-first 0 (parts done .1 .numbers) (h .numbers)), refl), (refl, refl)), refl)), refl)
-carries (number n) h = ((refl, ((((refl, wide-first 1 (parts (number n) .1 .numbers) (h .numbers)), refl), (refl, refl)), refl)), refl)
-carries (enters t rs) h = ((refl, ((((refl, wide-first 1 (parts (enters t rs) .1 .numbers) (h .numbers)), refl), (refl, list-fits 255 _ (h .short) (h .list))), refl)), refl)
-carries (told e ns) h = ((refl, ((((refl, wide-first 1 (parts (told e ns) .1 .numbers) (h .numbers)), refl), (refl, list-fits 255 _ (h .short) (h .list))), refl)), refl)
-carries (left j n) h = ((refl, ((((refl, wide-first 2 (parts (left j n) .1 .numbers) (h .numbers)), refl), (refl, refl)), refl)), refl)
+carries (refused r) h = ((refl, fields-fit 2 false None _ refl (h .numbers) refl refl refl), refl)
+carries done h = ((refl, fields-fit 0 false None _ refl (h .numbers) refl refl refl), refl)
+carries (number n) h = ((refl, fields-fit 1 false None _ refl (h .numbers) refl refl refl), refl)
+carries (enters t rs) h = ((refl, fields-fit 1 false (Some 255) _ refl (h .numbers) refl refl (list-fits 255 _ (h .short) (h .list))), refl)
+carries (told e ns) h = ((refl, fields-fit 1 false (Some 255) _ refl (h .numbers) refl refl (list-fits 255 _ (h .short) (h .list))), refl)
+carries (left j n) h = ((refl, fields-fit 2 false None _ refl (h .numbers) refl refl refl), refl)
 
 pub answers-back : (a : Answer) → Carried a → read-all answers (write-answer a) ≡ Ok a
 unfolding write-answer

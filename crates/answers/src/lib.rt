@@ -32,7 +32,8 @@ pub fn read(bytes: &[u8]) -> Result<Answer<'_>, usize>
 
 // Writes an answer's bytes, and says how many there are.
 pub fn write(answer: Answer<'_>, out: &mut [u8]) -> Result<usize, Unwritten>
-    ensures { λ r. ⌜ Written (carried (answer-of (answer .entry))) (write-answer (answer-of (answer .entry))) (now (out .entry)) (now (out .exit)) r ⌝ }
+    ensures { λ r. ⌜ Written (carried (answer-of (answer .entry))) (write-answer (answer-of (answer .entry))) (now (out .entry)) (now
+        (out .exit)) r ⌝ }
 {
     let parts = rows::parts_of(answer);
     let Some(shape) = rows::shape(parts.number) else {

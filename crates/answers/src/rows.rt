@@ -80,7 +80,15 @@ pub struct Parts<'a> {
 }
 
 fn of(number: u8, a: u64, b: u64, list: Numbers<'_>) -> Parts<'_>
-    ensures { λ r. ⌜ r ≡ record { number = number; fields = record { numbers = a ∷ (b ∷ (0 ∷ (0 ∷ []))); place = nowhere; list = list .entry } } ⌝ }
+    ensures { λ r. ⌜ r ≡ record {
+      number = number;
+      fields = record {
+        numbers = a ∷ (b ∷ (0 ∷ (0 ∷ [])));
+        place = nowhere;
+        list =
+            list .entry;
+      };
+    } ⌝ }
 {
     Parts {
         number,

@@ -29,7 +29,8 @@ pub fn read(bytes: &[u8]) -> Result<Call<'_>, usize>
 
 // Writes a call's bytes, and says how many there are.
 pub fn write(call: Call<'_>, out: &mut [u8]) -> Result<usize, Unwritten>
-    ensures { λ r. ⌜ Written (carried (call-of (call .entry))) (write-call (call-of (call .entry))) (now (out .entry)) (now (out .exit)) r ⌝ }
+    ensures { λ r. ⌜ Written (carried (call-of (call .entry))) (write-call (call-of (call .entry))) (now (out .entry)) (now
+        (out .exit)) r ⌝ }
 {
     let parts = rows::parts_of(call);
     let Some(shape) = rows::shape(parts.number) else {

@@ -71,15 +71,24 @@ rights-few true false = omega arith
 rights-few false true = omega arith
 rights-few false false = omega arith
 
-rights-back : (t s : ℕ) (w x : Bool) → to-place (from-place (record { table = t; slot = s; write = w; run = x })) ≡ record { table = t; slot = s; write = w; run = x }
+rights-back : (t s : ℕ) (w x : Bool) → to-place (from-place (record { table = t; slot = s; write = w; run = x })) ≡ record {
+  table =
+      t;
+  slot = s;
+  write = w;
+  run = x;
+}
 rights-back t s true true = refl
 rights-back t s true false = refl
 rights-back t s false true = refl
 rights-back t s false false = refl
 
 pub place-fits : (w : model.Place) → w .table < 2 ^ 64 → w .slot < 2 ^ 64 → place .fits w
-place-fits w h k =
-    (((refl, (h, (k, tt))), lt-ltb (rights (w .write) (w .run)) 4 (rights-few (w .write) (w .run))), rights-back (w .table) (w .slot) (w .write) (w .run))
+place-fits w h k = (
+  ((refl, (h, (k, tt))), lt-ltb (rights (w .write) (w .run)) 4 (rights-few (w .write) (w .run))),
+  rights-back (w .table) (w .slot)
+      (w .write) (w .run),
+)
 
 pub list-fits : (most : ℕ) (l : List ℕ) → leb (length l) most ≡ true → Wide l → list most .fits l
 list-fits most l h k = ((h, (refl, k)), refl)

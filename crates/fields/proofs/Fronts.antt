@@ -132,7 +132,8 @@ numbers-take (suc n) k bs h =
     let e : k ≡ 8 + (k - 8) = omega arith in
     rw (e, number-take (k - 8) bs, drop-take 8 (k - 8) bs, numbers-take n (k - 8) (drop 8 bs) (omega arith)) refl
 
-pub part-numbers : (n k : ℕ) (bs : List ℕ) → k ≡ 8 * n → 8 * n ≤ length bs → numbers-in (length (take k bs) / 8) (take k bs) ≡ numbers-in n bs
+pub part-numbers : (n k : ℕ) (bs : List ℕ) → k ≡ 8 * n → 8 * n ≤ length bs → numbers-in (length (take k bs) / 8)
+    (take k bs) ≡ numbers-in n bs
 part-numbers n k bs e h =
     let l : length (take k bs) / 8 ≡ n = simp length-take (omega arith) in
     rw l (numbers-take n k bs (omega arith))

@@ -63,7 +63,8 @@ Before {A} g f h = (a : A) × (mid : List ℕ) × (g ≡ got a mid) × (f a mid 
 pub clash : {A P : Type 0} (a : A) (rest : List ℕ) (r : ℕ) → got a rest ≡ lost r → P
 clash a rest r e = let z : _≡_ {A = ℕ} 0 1 = cc in absurd (omega arith)
 
-pub then-got : {A B : Type 0} (g : Got A) (f : A → List ℕ → Got B) (b : B) (rest : List ℕ) → and-then g f ≡ got b rest → Before g f (got b rest)
+pub then-got : {A B : Type 0} (g : Got A) (f : A → List ℕ → Got B) (b : B) (rest : List ℕ) → and-then g f ≡ got b rest → Before g f
+    (got b rest)
 then-got (got a mid) f b rest e = (a, mid, refl, e)
 then-got (lost r) f b rest e = clash b rest r (sym e)
 
@@ -200,7 +201,8 @@ one-spelling c l bs v t e =
 
 -- bytes are lost with so many left, or something stands behind a value
 abbrev Left : {A : Type 0} → ℕ → Got A → ℕ → Type 0
-Left {A} n g k = ((r : ℕ) × (g ≡ lost r) × (k ≡ n - r)) ⊎ ((v : A) × (rest : List ℕ) × (g ≡ got v rest) × (k ≡ n - length rest) × (0 < length rest))
+Left {A} n g k = ((r : ℕ) × (g ≡ lost r) × (k ≡ n - r)) ⊎ ((v : A) × (rest : List ℕ) × (g ≡ got v rest) × (k ≡ n - length rest) ×
+    (0 < length rest))
 
 closed-err : {A : Type 0} (n : ℕ) (g : Got A) (k : ℕ) → closed n g ≡ Err k → Left n g k
 closed-err n (got v []) k e = let z : _≡_ {A = ℕ} 0 1 = cc in absurd (omega arith)
@@ -229,10 +231,14 @@ says-where c l bs k t e =
           ⊎-elim
           (λ short. omega arith)
           (λ long.
-          let d = subst (λ z. Begins (take j z) (c .write w ++ [])) (o .1) (subst (λ z. Begins (take j bs) z) (sym (append-nil (c .write w))) b) in
+          let d = subst (λ z. Begins (take j z) (c .write w ++ [])) (o .1) (subst (λ z. Begins (take j bs) z) (sym (append-nil
+          (c .write w))) b) in
           let fr = front-of c l w v [] (g .1) j f (o .0) long d in
           let n = begins-long _ _ (fr .1) in
-          let m : length (take (j - length (c .write v)) (g .1)) ≡ j - length (c .write v) = length-take-le _ (g .1) (omega (arith, o .3)) in
+          let m : length (take (j - length (c .write v)) (g .1)) ≡ j - length (c .write v) = length-take-le _ (g .1) (omega (
+            arith,
+            o .3,
+          )) in
           omega arith)
           (cases-lt j (length (c .write v)));
     })

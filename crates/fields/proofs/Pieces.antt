@@ -144,7 +144,8 @@ numbers-back : (n : ℕ) (ns rest : List ℕ) → (length ns ≡ n) × Wide ns �
 numbers-back n ns rest f =
     let l : length (numbers-bytes ns) ≡ 8 * n = length-numbers-bytes ns ∙ ap (λ k. 8 * k) (f .0) in
     let h : 8 * n ≤ length (numbers-bytes ns ++ rest) = rw length-append (omega arith) in
-    let v : numbers-in n (numbers-bytes ns ++ rest) ≡ ns = ap (λ k. numbers-in k (numbers-bytes ns ++ rest)) (sym (f .0)) ∙ numbers-again ns rest (f .1) in
+    let v : numbers-in n (numbers-bytes ns ++ rest) ≡ ns = ap (λ k. numbers-in k (numbers-bytes ns ++ rest)) (sym (f .0))
+    ∙ numbers-again ns rest (f .1) in
     rw (le-leb (8 * n) _ h, v, drop-at (numbers-bytes ns) rest (8 * n) l) refl
 
 numbers-only : (n : ℕ) (bs ns rest : List ℕ) → Bytes bs → numbers n .read bs ≡ got ns rest →

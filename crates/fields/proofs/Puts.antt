@@ -61,7 +61,8 @@ numbers-bytes-++ (x ∷ xs) ys =
 
 -- one number more, of those that are written in turn
 pub wrote-next : (a b c ns : List ℕ) (at m e i : ℕ) → i < length ns → at + 8 * length ns ≤ length a →
-    Wrote a b at (numbers-bytes (take i ns)) m → Wrote b c m (number-bytes (getD ns i 0)) e → Wrote a c at (numbers-bytes (take (i + 1) ns)) e
+    Wrote a b at (numbers-bytes (take i ns)) m → Wrote b c m (number-bytes (getD ns i 0)) e → Wrote a c at (numbers-bytes (take
+    (i + 1) ns)) e
 unfolding numbers-bytes
 wrote-next a b c ns at m e i h room v w =
     let l : length (numbers-bytes (take i ns)) ≡ 8 * i = length-numbers-bytes _ ∙ ap (λ n. 8 * n) (simp length-take (omega arith)) in
@@ -69,7 +70,8 @@ wrote-next a b c ns at m e i h room v w =
     ap numbers-bytes (take-more ns i 0 h) ∙ numbers-bytes-++ (take i ns) (getD ns i 0 ∷ []) in
     wrote-is a c _ _ at e t (wrote-more a b c _ _ at m e v w (omega arith))
 
-pub room-next : (a b ns : List ℕ) (at m i : ℕ) → i < length ns → at + 8 * length ns ≤ length a → Wrote a b at (numbers-bytes (take i ns)) m →
+pub room-next : (a b ns : List ℕ) (at m i : ℕ) → i < length ns → at + 8 * length ns ≤ length a → Wrote a b at (numbers-bytes
+    (take i ns)) m →
     m + 8 ≤ length b
 room-next a b ns at m i h room v =
     let l : length (numbers-bytes (take i ns)) ≡ 8 * i = length-numbers-bytes _ ∙ ap (λ n. 8 * n) (simp length-take (omega arith)) in
@@ -83,7 +85,8 @@ wrote-list a b c ns n at m e is room v w =
     wrote-is a c _ _ at e (ap (λ k. k ∷ numbers-bytes ns) (sym is)) (wrote-more a b c (n ∷ []) (numbers-bytes ns) at m e v w (omega arith))
 
 -- the whole numbers in bytes are written as they stand there
-pub lent-bytes : (bs : List ℕ) → ((i : ℕ) → getD bs i 0 < 256) → numbers-bytes (numbers-in (length bs / 8) bs) ≡ take (8 * (length bs / 8)) bs
+pub lent-bytes : (bs : List ℕ) → ((i : ℕ) → getD bs i 0 < 256) → numbers-bytes (numbers-in (length bs / 8) bs) ≡ take (8 *
+    (length bs / 8)) bs
 lent-bytes bs t =
     let k : ℕ = length bs / 8 in
     let f = numbers-front k bs (all-from-getD _ bs 0 (λ i _. t i)) (omega arith) in
@@ -113,7 +116,8 @@ wrote-first a b ns n at e h w =
 
 -- a whole message
 pub length-message : (s : Shape) (n : ℕ) (f : Body) → length (f .numbers) ≡ 4 →
-    length (n ∷ body (layout s) .write f) ≡ 1 + 8 * s .numbers + length (place-if (s .place) .write (f .place)) + length (list-if (s .list) .write (f .list))
+    length (n ∷ body (layout s) .write f) ≡ 1 + 8 * s .numbers + length (place-if (s .place) .write (f .place)) + length (list-if
+    (s .list) .write (f .list))
 length-message s n f h =
     let few = s .few in
     let l : length (numbers-bytes (take (s .numbers) (f .numbers))) ≡ 8 * s .numbers =
@@ -121,7 +125,8 @@ length-message s n f h =
     simp length-append (omega arith)
 
 pub wrote-message : (s : Shape) (n : ℕ) (f : Body) (a b c d e : List ℕ) (x y z end : ℕ) → length (n ∷ body (layout s) .write f) ≤ length a →
-    Wrote a b 0 (n ∷ []) x → Wrote b c x (numbers-bytes (take (s .numbers) (f .numbers))) y → Wrote c d y (place-if (s .place) .write (f .place)) z →
+    Wrote a b 0 (n ∷ []) x → Wrote b c x (numbers-bytes (take (s .numbers) (f .numbers))) y → Wrote c d y (place-if (s .place) .write
+    (f .place)) z →
     Wrote d e z (list-if (s .list) .write (f .list)) end →
     (end ≡ length (n ∷ body (layout s) .write f)) × (e ≡ (n ∷ body (layout s) .write f) ++ drop end a)
 wrote-message s n f a b c d e x y z end room p q r t =
@@ -131,7 +136,12 @@ wrote-message s n f a b c d e x y z end room p q r t =
     let long : length (ns ++ (pl ++ ls)) ≡ length ns + (length pl + length ls) = simp length-append in
     let room2 : 1 + (length ns + (length pl + length ls)) ≤ length a = omega (arith, room) in
     let u : Wrote c e y (pl ++ ls) end = wrote-more c d e pl ls y z end r t (omega (arith, p .ends, p .long, q .ends, q .long)) in
-    let v : Wrote b e x (ns ++ (pl ++ ls)) end = wrote-more b c e ns (pl ++ ls) x y end q u (simp length-append (omega (arith, p .ends, p .long))) in
-    let w : Wrote a e 0 (n ∷ (ns ++ (pl ++ ls))) end = wrote-more a b e (n ∷ []) (ns ++ (pl ++ ls)) 0 x end p v (simp length-append (omega arith)) in
+    let v : Wrote b e x (ns ++ (pl ++ ls)) end = wrote-more b c e ns (pl ++ ls) x y end q u (simp length-append (omega (
+      arith,
+      p .ends,
+      p .long,
+    ))) in
+    let w : Wrote a e 0 (n ∷ (ns ++ (pl ++ ls))) end = wrote-more a b e (n ∷ []) (ns ++ (pl ++ ls)) 0 x end p v (simp length-append
+    (omega arith)) in
     let en : end ≡ length (n ∷ body (layout s) .write f) = w .ends ∙ omega arith in
     (en, w .there ∙ ap (λ k. (n ∷ body (layout s) .write f) ++ drop k a) (sym (w .ends)))

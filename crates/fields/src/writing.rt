@@ -54,7 +54,8 @@ fn put_words(out: &mut [u8], at: usize, words: &[u32]) -> usize
 // The whole numbers that stand in bytes, as they stand there.
 fn put_lent(out: &mut [u8], at: usize, bytes: &[u8]) -> usize
     requires { ⌜ at + 8 * (length (now bytes) / 8) ≤ length (now out) ⌝ }
-    ensures { λ r. ⌜ Wrote (now (out .entry)) (now (out .exit)) at (numbers-bytes (numbers-in (length (now (bytes .entry)) / 8) (now (bytes .entry)))) r ⌝ }
+    ensures { λ r. ⌜ Wrote (now (out .entry)) (now (out .exit)) at (numbers-bytes (numbers-in (length (now (bytes .entry)) / 8) (now
+        (bytes .entry)))) r ⌝ }
 {
     let size = 8 * (bytes.len() / 8);
     out[at..at + size].copy_from_slice(&bytes[0..size]);
@@ -83,7 +84,8 @@ fn put_place(out: &mut [u8], at: usize, place: Place) -> usize
 // A count, and so many numbers.
 fn put_list(out: &mut [u8], at: usize, list: Numbers<'_>) -> usize
     requires { ⌜ at + (1 + 8 * length (numbers-of list)) ≤ length (now out) ⌝ ∗ ⌜ length (numbers-of list) < 256 ⌝ }
-    ensures { λ r. ⌜ Wrote (now (out .entry)) (now (out .exit)) at (length (numbers-of (list .entry)) ∷ numbers-bytes (numbers-of (list .entry))) r ⌝ }
+    ensures { λ r. ⌜ Wrote (now (out .entry)) (now (out .exit)) at (length (numbers-of (list .entry)) ∷ numbers-bytes (numbers-of
+        (list .entry))) r ⌝ }
 {
     let end = put_byte(out, at, list.len() as u8);
     match list {
@@ -142,7 +144,8 @@ pub fn write(
     fields: Fields<'_>,
     out: &mut [u8],
 ) -> Result<usize, Unwritten>
-    ensures { λ r. ⌜ Written (few (shape .list) (length (body-of (fields .entry) .list))) (number ∷ body (layout shape) .write (body-of (fields .entry))) (now (out .entry)) (now (out .exit)) r ⌝ }
+    ensures { λ r. ⌜ Written (few (shape .list) (length (body-of (fields .entry) .list))) (number ∷ body (layout shape) .write (body-of
+        (fields .entry))) (now (out .entry)) (now (out .exit)) r ⌝ }
 {
     let Some(listed) = list_size(shape.list, fields.list) else {
         return Err(Unwritten::TooMany);

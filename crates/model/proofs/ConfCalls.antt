@@ -28,7 +28,7 @@ unfolding among
 none-among [] = refl
 none-among (o ∷ os) = refl
 
-pub none-edits : {A : Type 0} (x : Option A) → edits-or [] x ≡ []
+none-edits : {A : Type 0} (x : Option A) → edits-or [] x ≡ []
 unfolding edits-or
 none-edits None = refl
 none-edits (Some r) = refl
@@ -48,7 +48,7 @@ idle os d None e h = absurd (grind (arith, none-among os, h))
 idle os d (Some q) e h = absurd (grind (arith, e))
 
 -- A page of a cell of theirs is theirs.
-pub theirs-by : (os : Observer) (p : ℕ) (x : Entry) → among os (part-of (kind x)) ≡ true → among os (cell-of p x) ≡ true
+theirs-by : (os : Observer) (p : ℕ) (x : Entry) → among os (part-of (kind x)) ≡ true → among os (cell-of p x) ≡ true
 unfolding kind part-of kind-number
 theirs-by os p x h = grind (arith, none-among os)
 

@@ -9,11 +9,11 @@ use Rattle.std.specs.declared.option.Option.{Option}
 use Rattle.std.specs.declared.option.Option.the-variants.{Some, None}
 use Rattle.std.specs.Options.{valueOr}
 use Rattle.model.specs.Calls.{CellCall, by-cell, cell-number, leave, interrupt, fault, grow, shrink, extend, who, draw}
-use Rattle.model.specs.Answers.{Refusal, told, to-system}
-use Rattle.model.specs.Pages.{kind, kind-number, cell-in}
+use Rattle.model.specs.Answers.{Refusal, to-system}
+use Rattle.model.specs.Pages.{kind, kind-number}
 use Rattle.model.specs.State.{Limits, State, zeros, Caller, caller, apply-all, run}
 use Rattle.model.specs.Refusals.{failing, cell-checks, cell-fits, checks, place, refusal, error}
-use Rattle.model.specs.Monitor.{cell-edits, caller-edits, changed, edits-or, edits, after, cell-reply, caller-reply, reply, answer, name-in}
+use Rattle.model.specs.Monitor.{cell-edits, caller-edits, changed, edits-or, edits, after, cell-reply, caller-reply, reply, answer}
 use Rattle.model.specs.Observers.{Observer, among, theirs, Given, gives, left-with, interrupted, faulted, grew, shrank, extended, asked-who}
 use Rattle.model.specs.Observers.{drew}
 use Rattle.model.proofs.ConfSeen.{same-cell, one-caller}
@@ -22,7 +22,7 @@ use Rattle.model.proofs.ConfCalls.{or-alike, same-refusal}
 use Rattle.model.proofs.ConfRunning.{Runs}
 
 -- A call by what it gives away, with registers and a number that it does not.
-unfoldable pub given : List ℕ → ℕ → Given → CellCall
+unfoldable given : List ℕ → ℕ → Given → CellCall
 given rs n (left-with x) = leave x
 given rs n interrupted = interrupt rs
 given rs n (faulted x) = fault x
@@ -32,7 +32,7 @@ given rs n (extended p i) = extend p i
 given rs n asked-who = who
 given rs n drew = draw n
 
-pub was-given : (l : Limits) (s : State) (c : CellCall) → (rs : List ℕ) × (n : ℕ) × (c ≡ given rs n (gives l s c))
+was-given : (l : Limits) (s : State) (c : CellCall) → (rs : List ℕ) × (n : ℕ) × (c ≡ given rs n (gives l s c))
 unfolding given gives
 was-given l s (leave n) = ([], 0, refl)
 was-given l s (interrupt rs) = (rs, 0, refl)
@@ -60,18 +60,11 @@ module _ (l : Limits) (os : Observer) (s t : State) (h : Like os s t) (k : Calle
   same-error c = ap (λ cs. valueOr (failing cs) 0) (same-cell s t (h .pages .same) l (h .beside .running) k c)
 
   -- What a cell is told in full, if it is theirs.
-  pub told-same : Runs s k → among os (Some (k .cell)) ≡ true → (c : CellCall) → cell-reply l s k c ≡ cell-reply l t k c
+  told-same : Runs s k → among os (Some (k .cell)) ≡ true → (c : CellCall) → cell-reply l s k c ≡ cell-reply l t k c
   unfolding cell-reply kind-number
-  told-same r o (leave n) = refl
-  told-same r o (interrupt rs) = refl
-  told-same r o (fault n) = refl
-  told-same r o (grow p w) = ap (λ n. told n []) (same-error (grow p w))
-  told-same r o (shrink p w) = ap (λ n. told n []) (same-error (shrink p w))
-  told-same r o (extend p i) = ap (λ n. told n []) (same-error (extend p i))
-  told-same r o who =
+  told-same r o c =
       let first : theirs os s (k .cell) ≡ true = rw (r .first) o in
-      ap (λ x. told 0 (name-in (cell-in x))) (h .pages .own (k .cell) first)
-  told-same r o (draw n) = refl
+      grind (arith, same-error, h .pages .own (k .cell) first)
 
   pub answer-same : Runs s k → among os (Some (k .cell)) ≡ true → (c : CellCall) → answer l s (by-cell c) ≡ answer l t (by-cell c)
   answer-same r o c =
@@ -110,7 +103,7 @@ module _ (l : Limits) (os : Observer) (s t : State) (h : Like os s t) (k : Calle
       unfolding checks place
       refusals-same = rw (numbers-same g, a, b, e, calls-too)
 
-      pub end-like : (theirs os s (k .thread) ≡ true → rs ≡ qs) →
+      end-like : (theirs os s (k .thread) ≡ true → rs ≡ qs) →
           Like os (after l s (by-cell (given rs x g))) (after l t (by-cell (given qs y g)))
       unfolding edits-or
       end-like own =
@@ -123,7 +116,7 @@ module _ (l : Limits) (os : Observer) (s t : State) (h : Like os s t) (k : Calle
           go (Some n) None = h
           go u (Some r) = h
 
-      pub end-alike : to-system (answer l s (by-cell (given rs x g))) ≡ to-system (answer l t (by-cell (given qs y g)))
+      end-alike : to-system (answer l s (by-cell (given rs x g))) ≡ to-system (answer l t (by-cell (given qs y g)))
       end-alike =
           rw (refusals-same, reply-is l s k e (given rs x g), reply-is l t k calls-too (given qs y g))
           (or-alike _ _ (refusal l t (by-cell (given qs y g))) (replies-alike g))

@@ -23,7 +23,7 @@ use Rattle.model.proofs.ConfSeen.{Public-same, same-tables, same-put}
 
 module _ {A : Type 0} where
   -- Two lists of one length after a write: both as before, or both as written.
-  pub getD-set-both : (xs ys : List A) (i j : ℕ) (a b d : A) → length xs ≡ length ys →
+  getD-set-both : (xs ys : List A) (i j : ℕ) (a b d : A) → length xs ≡ length ys →
       ((getD (set xs i a) j d ≡ getD xs j d) × (getD (set ys i b) j d ≡ getD ys j d))
       ⊎ ((i ≡ j) × (getD (set xs i a) j d ≡ a) × (getD (set ys i b) j d ≡ b))
   getD-set-both [] [] i j a b d h = inl (refl, refl)
@@ -48,20 +48,20 @@ module _ {A : Type 0} where
   set-here (x ∷ xs) (y ∷ ys) (suc i) a d h = set-here xs ys i a d (omega arith)
 
 -- What the edits of a page do.
-abbrev pub slotted : ℕ → Slot → Table → Table
+abbrev slotted : ℕ → Slot → Table → Table
 slotted j z x = record { cell = x .cell; slots = set (x .slots) j z }
 
-abbrev pub tabled : ℕ → ℕ → Top → Top
+abbrev tabled : ℕ → ℕ → Top → Top
 tabled i p x = record { cell = x .cell; tables = set (x .tables) i (Some p) }
 
-abbrev pub threaded : Bool → List ℕ → Thread → Thread
+abbrev threaded : Bool → List ℕ → Thread → Thread
 threaded u rs x = record { cell = x .cell; start = x .start; under-way = u; registers = rs }
 
 -- An edit of a page keeps its kind, and acts on what is public of it.
 pub record Edits (f g F : Entry → Entry) : Type 0 where
   pub kinds : (x : Entry) → kind (f x) ≡ kind x
-  pub left : (x : Entry) → public-part (f x) ≡ F (public-part x)
-  pub right : (x : Entry) → public-part (g x) ≡ F (public-part x)
+  left : (x : Entry) → public-part (f x) ≡ F (public-part x)
+  right : (x : Entry) → public-part (g x) ≡ F (public-part x)
 
 pub edits-slot : (j : ℕ) (z : Slot) → Edits (in-table (slotted j z)) (in-table (slotted j z)) (in-table (slotted j z))
 unfolding kind in-cell in-thread in-table
@@ -90,7 +90,7 @@ pub record Like-pages (os : Observer) (Q : ℕ → Type 0) (s t : State) : Type 
   pub holds : (p : ℕ) → theirs os s p ≡ true → is-held (entry s p) ≡ true → Q p
 
 -- A page that becomes a held one has to be as Q says.
-abbrev pub Fine : (ℕ → Type 0) → Edit → Type 0
+abbrev Fine : (ℕ → Type 0) → Edit → Type 0
 Fine Q (put-entry p x) = (is-held x ≡ false) ⊎ Q p
 Fine Q (put-slot c w z) = Unit {0}
 Fine Q (put-table c i p) = Unit {0}
@@ -194,7 +194,7 @@ beside-edits : (s t : State) (es : List Edit) → Beside s t → Beside (apply-a
 beside-edits s t [] h = h
 beside-edits s t (e ∷ es) h = beside-edits (apply s e) (apply t e) es (beside-edit s t e h)
 
-pub now-says : (os : Observer) (P Q : ℕ → Type 0) (s t : State) → ((p : ℕ) → P p → Q p) → Like-pages os P s t → Like-pages os Q s t
+now-says : (os : Observer) (P Q : ℕ → Type 0) (s t : State) → ((p : ℕ) → P p → Q p) → Like-pages os P s t → Like-pages os Q s t
 now-says os P Q s t f h = record { same = h .same; own = h .own; holds = λ p g a. f p (h .holds p g a) }
 
 -- Edits leave two such states alike, where each page that becomes a held one has the same words then.

@@ -27,7 +27,7 @@ use Rattle.model.proofs.ConfCalls.{cell-running}
 use Rattle.model.proofs.ConfLike.{Edits, edits-slot, edits-table, edits-measured, edits-phase, edits-thread}
 
 -- Who calls: the thread that runs, and its cell.
-pub caller-is : (d : Entries) (r : Option ℕ) (k : Caller) → caller-by d r ≡ Some k →
+caller-is : (d : Entries) (r : Option ℕ) (k : Caller) → caller-by d r ≡ Some k →
     (r ≡ Some (k .thread)) × (part-of (kind (at d (k .thread))) ≡ Some (k .cell))
 unfolding caller-by
 caller-is d None k h = absurd (grind (arith, h))

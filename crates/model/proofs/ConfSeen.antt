@@ -7,8 +7,7 @@ use lib.ListN.{length, getD}
 use Rattle.std.specs.declared.option.Option.{Option}
 use Rattle.std.specs.declared.option.Option.the-variants.{Some, None}
 use Rattle.std.specs.Options.{mapped}
-use Rattle.model.specs.Calls.{SystemCall, CellCall, Call, by-system, by-cell, garbled, how-many, new-cell, new-thread, new-table, hold}
-use Rattle.model.specs.Calls.{give, show, remove, seal, stop, enter, resume, leave, interrupt, fault, grow, shrink, extend, who, draw}
+use Rattle.model.specs.Calls.{SystemCall, CellCall, Call, by-system, by-cell, garbled}
 use Rattle.model.specs.Pages.{nothing, Phase, Cell, Entry, cell, thread, in-cell, in-thread, kind, part-of, cell-in, thread-in, tables-in}
 use Rattle.model.specs.Pages.{slots-in, cell-is, thread-goes, is-in, has-parts, tables-by, slot-in, table-put-by, Entries, at}
 use Rattle.model.specs.State.{Limits, State, entry, Caller, caller, caller-by, is-owner-in, owner-by}
@@ -105,7 +104,7 @@ module _ (s t : State) (h : Public-same s t) where
   pub same-put : (c i p : ℕ) → table-put-by (s .entries) (cell-in (entry s c)) i p ≡ table-put-by (s .entries) (cell-in (entry t c)) i p
   same-put c i p = at-page (λ x. table-put-by (s .entries) (cell-in x) i p) (put-public (s .entries) i p) c
 
-  pub same-caller : (r : Option ℕ) → caller-by (s .entries) r ≡ caller-by (t .entries) r
+  same-caller : (r : Option ℕ) → caller-by (s .entries) r ≡ caller-by (t .entries) r
   unfolding caller-by
   same-caller None = refl
   same-caller (Some q) = ap (λ k. mapped (λ c. record { thread = q; cell = c }) (part-of k)) (same-kind q)
@@ -124,29 +123,11 @@ module _ (s t : State) (h : Public-same s t) where
   module _ (l : Limits) (run : s .running ≡ t .running) where
     same-system : (c : SystemCall) → system-checks l s c ≡ system-checks l t c
     unfolding system-checks
-    same-system how-many = refl
-    same-system (new-cell p q) = simp public
-    same-system (new-thread p c a) = simp public
-    same-system (new-table p c i) = simp public
-    same-system (hold p c w o) = simp public
-    same-system (give p c) = simp public
-    same-system (show o c w) = simp public
-    same-system (remove p) = simp public
-    same-system (seal c) = simp public
-    same-system (stop c) = simp public
-    same-system (enter q x y z) = simp public
-    same-system (resume q) = simp public
+    same-system c = grind (arith, public)
 
     pub same-cell : (k : Caller) (c : CellCall) → cell-checks l s k c ≡ cell-checks l t k c
     unfolding cell-checks
-    same-cell k (leave n) = refl
-    same-cell k (interrupt rs) = refl
-    same-cell k (fault n) = refl
-    same-cell k (grow p w) = simp public
-    same-cell k (shrink p w) = simp public
-    same-cell k (extend p i) = simp public
-    same-cell k who = refl
-    same-cell k (draw n) = refl
+    same-cell k c = grind (arith, public)
 
     pub one-caller : caller s ≡ caller t
     one-caller = ap (caller-by (s .entries)) run ∙ same-caller (t .running)

@@ -5,15 +5,13 @@ use mathlib.Core.Bool.{true, false}
 use mathlib.Core.List.{List, [], _∷_}
 use Prim.Native.Nat.{ℕ, _<_, _≤_}
 use native.Mathlib.Omega.{arith}
-use lib.Dec.{leb, eqb}
 use lib.ListN.{length}
 use Rattle.std.proofs.shelf.Lists.{getD-past}
 use Rattle.std.proofs.shelf.Tests.{cases-lt, and-parts, and-from}
 use Rattle.std.proofs.shelf.Ways.{tells}
 use Rattle.std.specs.declared.option.Option.{Option}
 use Rattle.std.specs.declared.option.Option.the-variants.{Some, None}
-use Rattle.model.specs.Calls.{Place, SystemCall, CellCall, Call, by-cell, how-many, new-cell, new-thread, new-table, hold, give, show}
-use Rattle.model.specs.Calls.{remove, seal, stop, enter, resume, leave, interrupt, fault, grow, shrink, extend, who, draw}
+use Rattle.model.specs.Calls.{Place, SystemCall, CellCall, Call, by-cell}
 use Rattle.model.specs.Pages.{Slot, nothing, closed, opened, writable, Entry, closed-in, _is_, at, slot-in, slot-at, table-at, tables-by}
 use Rattle.model.specs.Pages.{tables-in, slots-in, cell-in, Cell}
 use Rattle.model.specs.State.{Limits, Sized, State, entry, word, all-words, Page, Caller, caller, Edit}
@@ -49,25 +47,9 @@ words-carried (x ∷ xs) h =
 
 -- A call that passed its checks has numbers that are carried.
 module _ (l : Limits) (z : Sized l) (s : State) (fit : (p : ℕ) → Entry-fits l (entry s p)) where
-  open-carried : (o : Option ℕ) → open-there l o ≡ true → option-carried o ≡ true
-  unfolding open-there option-carried
-  open-carried None h = refl
-  open-carried (Some o) h = grind (arith, tells)
-
   system-carries : (c : SystemCall) → Pass (system-checks l s c) → system-fits l c ≡ true → system-carried c ≡ true
-  unfolding system-checks system-fits system-carried option-carried
-  system-carries how-many k f = refl
-  system-carries (new-cell p t) k f = grind (arith, tells)
-  system-carries (new-thread p c a) k f = grind (arith, tells)
-  system-carries (new-table p c i) k f = grind (arith, tells)
-  system-carries (hold p c w o) k f = grind (arith, tells, open-carried o (k .1 .1 .1 .0))
-  system-carries (give p c) k f = grind (arith, tells)
-  system-carries (show o c w) k f = grind (arith, tells, open-carried (Some o) (k .1 .1 .1 .0))
-  system-carries (remove p) k f = grind (arith, tells)
-  system-carries (seal c) k f = grind (arith, tells)
-  system-carries (stop c) k f = grind (arith, tells)
-  system-carries (enter t x y w) k f = grind (arith, tells)
-  system-carries (resume t) k f = grind (arith, tells)
+  unfolding system-checks system-fits system-carried option-carried open-there
+  system-carries c k f = grind (arith, tells)
 
   tables-short : (x : Option Cell) → length (tables-by (s .entries) x) ≤ l .places
   unfolding tables-by tables-in Entry-fits
@@ -104,16 +86,7 @@ module _ (l : Limits) (z : Sized l) (s : State) (fit : (p : ℕ) → Entry-fits 
 
   cell-carries : (k : Caller) (c : CellCall) → Pass (cell-checks l s k c) → cell-fits c ≡ true → cell-carried c ≡ true
   unfolding cell-checks cell-fits cell-carried
-  cell-carries k (leave n) q f = grind (arith, tells)
-  cell-carries k (interrupt rs) q f =
-      let a = and-parts (eqb (length rs) 17) (all-words rs) f in
-      and-from (leb (length rs) 255) (all-carried rs) (grind (arith, tells, a .0)) (words-carried rs (a .1))
-  cell-carries k (fault n) q f = grind (arith, tells)
-  cell-carries k (grow p w) q f = grind (arith, tells)
-  cell-carries k (shrink p w) q f = grind (arith, tells, seen-carried (k .cell) p w (q .1 .0))
-  cell-carries k (extend p i) q f = grind (arith, tells)
-  cell-carries k who q f = refl
-  cell-carries k (draw n) q f = grind (arith, tells)
+  cell-carries k c q f = grind (arith, tells, words-carried, seen-carried (k .cell))
 
   -- So a call makes no edit, or is an event.
   carries : (c : Call) (es : List Edit) → Effect l s c es → (es ≡ []) ⊎ (call-carried c ≡ true)

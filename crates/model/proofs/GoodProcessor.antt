@@ -45,7 +45,7 @@ module _ (l : Limits) where
   store-good false (closed p w x) ws k v e h = h
   store-good false (opened o w) ws k v e h = h
 
-  well-page : (z : Slot) (ws : List ℕ) → View-well l z ws → writable z ≡ true → Page l ws
+  pub well-page : (z : Slot) (ws : List ℕ) → View-well l z ws → writable z ≡ true → Page l ws
   unfolding View-well writable
   well-page nothing ws h k = absurd (grind (arith, k))
   well-page (closed p w x) ws h k = h

@@ -54,6 +54,7 @@ pub the-held : (x : Entry) (c : ℕ) → is-held x ≡ true → (part-of (kind x
 unfolding kind kind-number part-of _is_
 the-held x c h k = grind arith
 
+-- Free, or spare.
 abbrev Idle : Kind → Type 0
 Idle k = (k ≡ unused) ⊎ ((b : ℕ) × (k ≡ spare-of b))
 
@@ -65,7 +66,7 @@ record Taken (d : Entries) (p c : ℕ) (x : Entry) : Type 0 where
   unseen : ((b : ℕ) → kind x ≢ table-of b) → Unseen (set d p x) p
   unnamed : (j : ℕ) → table-on (top-at (set d p x) c) j ≢ Some p
 
--- A free or a spare page may become one.
+-- A free or a spare page may become one: no cell sees it.
 module _ (d : Entries) (S : Sound d) (p c : ℕ) (x : Entry) (was : Idle (kind-at d p)) (a : Alive (at d c)) (low : p < length d)
     (part : part-of (kind x) ≡ Some c) (no-top : (b : ℕ) → kind x ≢ top-of b) (empty : (j : ℕ) → slot-on x j ≡ nothing) where
   no-one : Unseen d p
@@ -100,6 +101,7 @@ the-closed (opened o a) p h = absurd (grind (arith, h))
 
 module _ (d : Entries) (S : Sound d) (c p q j : ℕ) (a : Alive (at d c)) (kp : kind-at d p ≡ held-by c) (kq : kind-at d q ≡ table-of c)
     (seen : (closed-in (slot-on (at d q) j) is p) ≡ true) where
+  -- All pages then, each one of them, and what stays.
   d2 : Entries
   d2 = set d q (in-table (empties j) (at d q))
 
@@ -194,6 +196,7 @@ module _ (l : Limits) (s : State) (S : Sound (s .entries)) (long : length (s .en
   part-good p c x es i a h k g =
       then s _ _ (taken (s .entries) S p c x i a (low p h) (grind arith) (λ b. grind arith) (λ j. grind arith) .turns) (g _)
 
+  -- What the checks of a call say: a cell is not stopped; a page that may go is spare, or its cell is stopped; it has no parts.
   cell-alive : (c : ℕ) → (there l c && is-cell (entry s c)) ≡ true → not (is-in stopped (entry s c)) ≡ true → Alive (entry s c)
   cell-alive c h k = (the-first (entry s c) (grind arith), grind arith)
 
@@ -236,6 +239,7 @@ module _ (l : Limits) (s : State) (S : Sound (s .entries)) (long : length (s .en
   system-good (enter t x y z) h = then s _ _ tt (none _)
   system-good (resume t) h = then s _ _ tt (none _)
 
+  -- A page that a cell takes out of a slot may become spare.
   shrink-good : (c p : ℕ) (w : Place) (q : Option ℕ) → Alive (entry s c) → kind (entry s p) ≡ held-by c →
       table-at (s .entries) c (w .table) ≡ q → (closed-in (slot-in (s .entries) q (w .slot)) is p) ≡ true →
       Turns (slot-put-in (s .entries) q (w .slot) nothing) p (spare (record { cell = c })) 0

@@ -67,36 +67,36 @@ module _ (l : Limits) (m : Machine) (g : Good-machine l m) (s : State) (rs : Lis
       let x = cell-some (cell-in (entry s (e .0))) (e .2) in
       rw (e .1, x .1, y .1) (g .seventeen-are (qs (Some (y .0))) (f (y .0) (rw (y .2) at (fits t))))
 
-  system-good : (c : SystemCall) → Pass (system-checks l s c) → system-fits l c ≡ true →
+  taken-good : (c : SystemCall) → Pass (system-checks l s c) → system-fits l c ≡ true →
       Good-after (apply-all s (system-edits l s c)) (system-reply l s c)
   unfolding system-edits system-reply system-checks system-fits registers-after first-registers kept-registers
-  system-good how-many h f = was
-  system-good (new-cell p t) h f = was
-  system-good (new-thread p c a) h f = was
-  system-good (new-table p c i) h f = was
-  system-good (hold p c w o) h f = was
-  system-good (give p c) h f = was
-  system-good (show o c w) h f = was
-  system-good (remove p) h f = was
-  system-good (seal c) h f = was
-  system-good (stop c) h f = was
-  system-good (enter t x y z) h f = λ i. entered-good t (λ o. first-registers o x y z) (h .0) (h .1 .0)
+  taken-good how-many h f = was
+  taken-good (new-cell p t) h f = was
+  taken-good (new-thread p c a) h f = was
+  taken-good (new-table p c i) h f = was
+  taken-good (hold p c w o) h f = was
+  taken-good (give p c) h f = was
+  taken-good (show o c w) h f = was
+  taken-good (remove p) h f = was
+  taken-good (seal c) h f = was
+  taken-good (stop c) h f = was
+  taken-good (enter t x y z) h f = λ i. entered-good t (λ o. first-registers o x y z) (h .0) (h .1 .0)
       (λ u k. first-seventeen x y z (u .start) (grind arith) (grind arith) (grind arith) (k .0))
-  system-good (resume t) h f = λ i. entered-good t kept-registers (h .0) (h .1 .0) (λ u k. k .1)
+  taken-good (resume t) h f = λ i. entered-good t kept-registers (h .0) (h .1 .0) (λ u k. k .1)
 
   -- A cell calls, whose registers are seventeen words.
   module _ (e : seventeen rs ≡ true) where
-    cell-good : (k : Caller) (c : CellCall) →
+    told-good : (k : Caller) (c : CellCall) →
         Good-after (apply-all s (edits-or (cell-edits l k c) (failing (cell-checks l s k c)))) (cell-reply l s k c)
     unfolding cell-edits cell-reply cell-checks edits-or registers-after
-    cell-good k (leave n) h = absurd (grind (arith, h))
-    cell-good k (interrupt qs) h = absurd (grind (arith, h))
-    cell-good k (fault n) h = absurd (grind (arith, h))
-    cell-good k (grow p w) h = g .goes-on-well rs _ _ e
-    cell-good k (shrink p w) h = g .goes-on-well rs _ _ e
-    cell-good k (extend p i) h = g .goes-on-well rs _ _ e
-    cell-good k who h = g .goes-on-well rs _ _ e
-    cell-good k (draw n) h = g .goes-on-well rs _ _ e
+    told-good k (leave n) h = absurd (grind (arith, h))
+    told-good k (interrupt qs) h = absurd (grind (arith, h))
+    told-good k (fault n) h = absurd (grind (arith, h))
+    told-good k (grow p w) h = g .goes-on-well rs _ _ e
+    told-good k (shrink p w) h = g .goes-on-well rs _ _ e
+    told-good k (extend p i) h = g .goes-on-well rs _ _ e
+    told-good k who h = g .goes-on-well rs _ _ e
+    told-good k (draw n) h = g .goes-on-well rs _ _ e
 
     pub cell-registers : (c : CellCall) → Good-after (after l s (by-cell c)) (answer l s (by-cell c))
     unfolding reply changed caller-reply caller-edits registers-after
@@ -104,12 +104,12 @@ module _ (l : Limits) (m : Machine) (g : Good-machine l m) (s : State) (rs : Lis
       where
         go : (k : Option Caller) → Good-after (apply-all s (caller-edits l s c k)) (caller-reply l s c k)
         go None = was
-        go (Some k) = cell-good k c
+        go (Some k) = told-good k c
 
   pub call-registers : (c : Call) → Possible-call s c → Good-after (after l s c) (answer l s c)
   unfolding reply changed checks registers-after Possible-call caller-by caller-edits caller-reply
   call-registers (by-system c) o =
-      unless-refused (by-system c) (λ n. let k = passed l s (by-system c) n in system-good c (k .1 .1) (grind (arith, k .0)))
+      unless-refused (by-system c) (λ n. let k = passed l s (by-system c) n in taken-good c (k .1 .1) (grind (arith, k .0)))
   call-registers (by-cell c) o = unless-refused (by-cell c) (λ n. go (s .running) o)
     where
       go : (r : Option ℕ) → r ≡ None →

@@ -5,9 +5,9 @@ use mathlib.Core.List.{List, [], _∷_, _++_, map}
 use Prim.Native.Nat.{ℕ}
 use lib.ListN.{replicate}
 use Rattle.std.specs.declared.option.Option.the-variants.{Some, None}
-use Rattle.model.specs.Calls.{Place, Call, by-system, by-cell}
+use Rattle.model.specs.Calls.{Place, Call, by-system, by-cell, garbled}
 use Rattle.model.specs.Calls.{how-many, new-cell, new-thread, new-table, hold, give, show, remove, seal, stop, enter, resume}
-use Rattle.model.specs.Calls.{leave, interrupt, grow, shrink, extend, who}
+use Rattle.model.specs.Calls.{leave, interrupt, fault, grow, shrink, extend, who, draw}
 use Rattle.model.specs.Answers.{Answer, refused, done, enters, told, left}
 use Rattle.model.specs.State.{Limits, State, new-state}
 use Rattle.model.specs.Monitor.{answer, after}
@@ -95,4 +95,67 @@ one-name =
     ∷ by-system (enter 2 0 0 0) ⇒ enters 1 (replicate 15 0 ++ (4096 ∷ 0 ∷ []))
     ∷ by-cell who
     ⇒ told 0 (2679725656 ∷ 1180564849 ∷ 4218349236 ∷ 3221858598 ∷ 1795978103 ∷ 3783897963 ∷ 2335176584 ∷ 2333515072 ∷ [])
+    ∷ []
+
+-- What each call is refused for, and in which order, and which errors a cell is told.
+abbrev pub refusals : List Row
+refusals =
+    by-system (new-cell 0 0) ⇒ refused-by 3
+    ∷ by-system (new-cell 0 6) ⇒ refused-by 3
+    ∷ by-system (new-thread 0 0 4096) ⇒ refused-by 5
+    ∷ by-system (new-cell 0 1) ⇒ done
+    ∷ by-system (new-thread 6 0 4096) ⇒ refused-by 3
+    ∷ by-system (new-thread 1 0 4096) ⇒ refused-by 4
+    ∷ by-system (new-thread 2 0 4294967296) ⇒ refused-by 2
+    ∷ by-system (new-table 2 1 4) ⇒ refused-by 8
+    ∷ by-system (new-table 2 1 0) ⇒ refused-by 5
+    ∷ by-system (new-table 2 0 0) ⇒ done
+    ∷ by-system (new-table 6 0 0) ⇒ refused-by 9
+    ∷ by-system (new-table 6 0 1) ⇒ refused-by 3
+    ∷ by-system (new-table 2 0 1) ⇒ refused-by 4
+    ∷ by-system (hold 3 1 (seen-at 0 4) None) ⇒ refused-by 2
+    ∷ by-system (hold 3 1 (seen-at 0 0) None) ⇒ refused-by 5
+    ∷ by-system (hold 6 0 (seen-at 1 0) (Some 3)) ⇒ refused-by 8
+    ∷ by-system (hold 2 0 (seen-at 0 0) (Some 3)) ⇒ refused-by 3
+    ∷ by-system (hold 6 0 (seen-at 0 0) None) ⇒ refused-by 3
+    ∷ by-system (hold 2 0 (seen-at 0 0) None) ⇒ refused-by 4
+    ∷ by-system (show 3 0 (seen-at 0 0)) ⇒ refused-by 3
+    ∷ by-system (give 6 0) ⇒ refused-by 3
+    ∷ by-system (give 2 0) ⇒ refused-by 4
+    ∷ by-system (give 3 0) ⇒ done
+    ∷ by-system (remove 6) ⇒ refused-by 3
+    ∷ by-system (remove 3) ⇒ refused-by 10
+    ∷ by-system (remove 4) ⇒ done
+    ∷ by-system (new-thread 4 0 4096) ⇒ done
+    ∷ by-system (seal 1) ⇒ refused-by 5
+    ∷ by-system (seal 0) ⇒ done
+    ∷ by-system (new-thread 5 0 4096) ⇒ refused-by 6
+    ∷ by-system (new-table 5 0 1) ⇒ refused-by 6
+    ∷ by-system (show 0 0 (seen-at 0 0)) ⇒ refused-by 6
+    ∷ by-system (enter 3 0 0 0) ⇒ refused-by 3
+    ∷ by-system (resume 4) ⇒ refused-by 12
+    ∷ by-cell (leave 1) ⇒ refused-by 14
+    ∷ by-cell (interrupt []) ⇒ refused-by 2
+    ∷ garbled 3 ⇒ refused (record { number = 1; place = 3 })
+    ∷ by-system (enter 4 1 2 3) ⇒ enters 1 (1 ∷ 2 ∷ 3 ∷ (replicate 12 0 ++ (4096 ∷ 0 ∷ [])))
+    ∷ garbled 0 ⇒ refused-by 1
+    ∷ by-cell (grow 2 (seen-at 4 0)) ⇒ told 3 []
+    ∷ by-cell (grow 3 (seen-at 4 0)) ⇒ told 8 []
+    ∷ by-cell (grow 3 (seen-at 1 0)) ⇒ told 8 []
+    ∷ by-cell (shrink 3 (seen-at 0 0)) ⇒ told 3 []
+    ∷ by-cell (extend 2 4) ⇒ told 8 []
+    ∷ by-cell (extend 2 0) ⇒ told 3 []
+    ∷ by-cell (extend 3 0) ⇒ told 9 []
+    ∷ by-cell (draw 4294967296) ⇒ refused-by 2
+    ∷ by-cell (draw 6) ⇒ told 0 (6 ∷ [])
+    ∷ by-cell (fault 3) ⇒ left 2 3
+    ∷ by-system (remove 3) ⇒ done
+    ∷ by-system (stop 1) ⇒ refused-by 5
+    ∷ by-system (stop 0) ⇒ done
+    ∷ by-system (stop 0) ⇒ done
+    ∷ by-system (give 5 0) ⇒ refused-by 13
+    ∷ by-system (new-thread 5 0 4096) ⇒ refused-by 13
+    ∷ by-system (new-table 5 0 0) ⇒ refused-by 13
+    ∷ by-system (hold 5 0 (seen-at 0 0) None) ⇒ refused-by 6
+    ∷ by-system (seal 0) ⇒ refused-by 6
     ∷ []

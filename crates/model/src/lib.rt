@@ -1,5 +1,5 @@
 // What the monitor does, as definitions, and what is promised of them: see specs/. Each function here has theorems as its contract.
-ghost use Rattle.model.specs.OneCell.{Plays, small, one-cell, one-name};
+ghost use Rattle.model.specs.OneCell.{Plays, small, one-cell, one-name, refusals};
 ghost use Rattle.model.specs.Promises.{Invariant-holds, Registers-good, Of-one-cell, Sees-its-own, At-one-place, Sealed-runs};
 ghost use Rattle.model.specs.Promises.{Sealed-stays, Held-gets-zeros, Held-gets-open, Grown-gets, Others-keep};
 ghost use Rattle.model.specs.Promises.{Open-pages-stay, Refused-keeps, Error-keeps};
@@ -95,9 +95,10 @@ pub fn not_vacuous() -> u8
     0
 }
 
-// One cell, from its making to its end, is answered as the table says; and a cell with one thread has the name that it should.
+// One cell, from its making to its end, is answered as the table says; a cell with one thread has the name that it should; and calls are
+// refused in the order that is said.
 pub fn one_cell_plays() -> u8
-    ensures { λ _. ⌜ Plays small one-cell ⌝ ∗ ⌜ Plays small one-name ⌝ }
+    ensures { λ _. ⌜ Plays small one-cell ⌝ ∗ ⌜ Plays small one-name ⌝ ∗ ⌜ Plays small refusals ⌝ }
 {
     0
 }

@@ -21,7 +21,8 @@ use Rattle.monitor.specs.declared.values.Reply.{Reply}
 -- short for any answer is left as it was.
 abbrev pub Called : model.Answer → List ℕ → List ℕ → Result Reply Unwritten → Type 0
 Called a before after (Ok r) =
-    (answer-of (r .answer) ≡ a) × (r .told ≡ length (write-answer (to-system a))) × (after ≡ write-answer (to-system a) ++ drop (r .told) before)
+    (answer-of (r .answer) ≡ a) × (r .told ≡ length (write-answer (to-system a))) × (after ≡ write-answer (to-system a) ++ drop
+    (r .told) before)
 Called a before after (Err TooMany) = ⊥
 Called a before after (Err (TooShort needed)) = (needed ≡ 17) × (length before < 17) × (after ≡ before)
 

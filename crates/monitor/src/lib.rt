@@ -51,7 +51,8 @@ fn clear(words: &mut [u64])
 // Opens the monitor over memory and pages that are lent to it: the memory is then that of a machine without cells. Limits that are out of
 // range, and slices of another length, are refused by 2, and nothing is written.
 pub fn open(limits: Limits, memory: &mut [u64], closed: &[u32], open: &[u32]) -> Result<(), Refusal>
-    ensures { λ r. ⌜ Opened (limits .closed) (limits .«open») (length (now (closed .entry))) (length (now («open» .entry))) (now (memory .entry)) (now (memory .exit)) r ⌝ }
+    ensures { λ r. ⌜ Opened (limits .closed) (limits .«open») (length (now (closed .entry))) (length (now («open» .entry))) (now
+        (memory .entry)) (now (memory .exit)) r ⌝ }
 {
     if !fits(limits, memory.len(), closed.len(), open.len()) {
         return Err(Refusal {
@@ -107,7 +108,8 @@ pub fn call(
     told: &mut [u8],
 ) -> Result<Reply, Unwritten>
     requires { ⌜ 256 ≤ length (now memory) ⌝ }
-    ensures reply { λ r. ⌜ Called (stage-answer (getD (now (memory .entry)) 0 0) (read-call (now (bytes .entry)))) (now (told .entry)) (now (told .exit)) r ⌝ }
+    ensures reply { λ r. ⌜ Called (stage-answer (getD (now (memory .entry)) 0 0) (read-call (now (bytes .entry)))) (now (told .entry))
+        (now (told .exit)) r ⌝ }
     ensures memory { λ _. ⌜ now (memory .exit) ≡ now (memory .entry) ⌝ }
     ensures closed { λ _. ⌜ now (closed .exit) ≡ now (closed .entry) ⌝ }
 {

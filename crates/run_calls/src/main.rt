@@ -43,7 +43,8 @@ fn complain(rt: &LibcRuntime, name: &str, ended: Ended) -> Result<(), Failed> {
         ),
         Ended::Limits { line, closed, open } => eprintln!(
             rt,
-            "run_calls: {name}: line {line}: limits {closed} {open} are out of range: expected 2 to 4096 closed pages, and at most 1048576 open ones"
+            "run_calls: {name}: line {line}: limits {closed} {open} are out of range: expected 2 to 4096 closed pages,
+                and at most 1048576 open ones"
         ),
         Ended::NoMemory { line } => eprintln!(
             rt,

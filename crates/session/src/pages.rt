@@ -12,7 +12,8 @@ const WORDS: usize = 1024;
 
 // The words of a page, if there is such a page.
 pub fn page(all: &[u32], number: u64) -> Option<&[u32]>
-    ensures { λ r. ⌜ Cases r (length (now (all .entry)) / 1024 ≤ number) (λ x. (number < length (now (all .entry)) / 1024) × (now x ≡ page-in (now (all .entry)) number)) ⌝ }
+    ensures { λ r. ⌜ Cases r (length (now (all .entry)) / 1024 ≤ number)
+        (λ x. (number < length (now (all .entry)) / 1024) × (now x ≡ page-in (now (all .entry)) number)) ⌝ }
 {
     if number >= all.len() as u64 / 1024 {
         return None;
@@ -43,7 +44,8 @@ fn fill(page: &mut [u32], words: &[u32])
 // Writes words into a page, and zeros behind them; or says that there is no such page, or more than a page of words.
 pub fn write(all: &mut [u32], number: u64, words: &[u32]) -> bool
     ensures done { λ r. ⌜ r ≡ page-fits (now (all .entry)) number (now (words .entry)) ⌝ }
-    ensures after { λ r. ⌜ now (all .exit) ≡ cond r (page-put (now (all .entry)) number (whole-page (now (words .entry)))) (now (all .entry)) ⌝ }
+    ensures after { λ r. ⌜ now (all .exit) ≡ cond r (page-put (now (all .entry)) number (whole-page (now (words .entry)))) (now
+        (all .entry)) ⌝ }
 {
     if number >= all.len() as u64 / 1024 || words.len() > WORDS {
         return false;

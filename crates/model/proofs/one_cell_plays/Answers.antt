@@ -1,5 +1,5 @@
 use Rattle.model.proofs.one_cell_plays.Needs as need
-use Rattle.model.proofs.Table.{one-cell-plays, one-name-plays}
+use Rattle.model.proofs.Table.{one-cell-plays, one-name-plays, refusals-play}
 
 pub returns : need.returns
-returns c = (one-cell-plays, one-name-plays)
+returns c = (one-cell-plays, (one-name-plays, refusals-play))

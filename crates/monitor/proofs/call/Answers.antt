@@ -26,7 +26,8 @@ never a t before after (TooShort n) e h w =
 
 pub returns-in-Err : need.returns-in-Err
 returns-in-Err c = record {
-  reply = never _ _ (c .args .told .now) (c .write .last .out) (c .in-Err .unwritten) (c .told-to-system .ensures ∙ ap model.to-system (c .answer-answer .ensures))
+  reply = never _ _ (c .args .told .now) (c .write .last .out) (c .in-Err .unwritten) (c .told-to-system .ensures ∙ ap model.to-system
+      (c .answer-answer .ensures))
       (omega arith) (c .in-Err .ensures tt);
   «memory» = refl;
   closed = refl;

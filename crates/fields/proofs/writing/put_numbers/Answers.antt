@@ -12,12 +12,14 @@ loop-number-holds c = wrote-none (c .args .out .now) (c .args .at)
 
 pub put-number-end-requires : need.put-number-end-requires
 put-number-end-requires c κs =
-    room-next (c .args .out .now) (c .loop-number .out) (c .args .numbers .now) (c .args .at) _ (c .loop-number .number-index) (omega arith) (omega arith)
+    room-next (c .args .out .now) (c .loop-number .out) (c .args .numbers .now) (c .args .at) _ (c .loop-number .number-index)
+    (omega arith) (omega arith)
     (c .loop-number .inv)
 
 pub loop-number-again : need.loop-number-again
 loop-number-again c =
-    wrote-next (c .args .out .now) (c .loop-number .out) _ (c .args .numbers .now) (c .args .at) _ _ (c .loop-number .number-index) (omega arith) (omega arith)
+    wrote-next (c .args .out .now) (c .loop-number .out) _ (c .args .numbers .now) (c .args .at) _ _ (c .loop-number .number-index)
+    (omega arith) (omega arith)
     (c .loop-number .inv) (c .put-number-end .ensures)
 
 pub returns : need.returns

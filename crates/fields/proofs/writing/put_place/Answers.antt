@@ -10,5 +10,6 @@ put-byte-requires c κs = omega (arith, c .put-numbers-end .ensures .ends, c .pu
 pub returns : need.returns
 unfolding numbers-bytes
 returns c =
-    wrote-more (c .args .out .now) (c .put-numbers-end .last .out) (c .put-byte .last .out) _ _ (c .args .at) _ _ (c .put-numbers-end .ensures)
+    wrote-more (c .args .out .now) (c .put-numbers-end .last .out) (c .put-byte .last .out) _ _ (c .args .at) _ _
+    (c .put-numbers-end .ensures)
     (rw (c .rights-of .ensures) at (c .put-byte .ensures)) (omega arith)

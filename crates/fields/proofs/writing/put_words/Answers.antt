@@ -12,12 +12,14 @@ loop-word-holds c = wrote-none (c .args .out .now) (c .args .at)
 
 pub put-number-end-requires : need.put-number-end-requires
 put-number-end-requires c κs =
-    room-next (c .args .out .now) (c .loop-word .out) (c .args .words .now) (c .args .at) _ (c .loop-word .word-index) (omega arith) (omega arith)
+    room-next (c .args .out .now) (c .loop-word .out) (c .args .words .now) (c .args .at) _ (c .loop-word .word-index) (omega arith)
+    (omega arith)
     (c .loop-word .inv)
 
 pub loop-word-again : need.loop-word-again
 loop-word-again c =
-    wrote-next (c .args .out .now) (c .loop-word .out) _ (c .args .words .now) (c .args .at) _ _ (c .loop-word .word-index) (omega arith) (omega arith)
+    wrote-next (c .args .out .now) (c .loop-word .out) _ (c .args .words .now) (c .args .at) _ _ (c .loop-word .word-index)
+    (omega arith) (omega arith)
     (c .loop-word .inv) (c .put-number-end .ensures)
 
 pub returns : need.returns

@@ -14,7 +14,12 @@ add-needed-2 c = omega (arith, c .place-size .ensures, length-place-if (c .args 
 
 pub add-needed-3 : need.add-needed-3
 add-needed-3 c =
-    omega (arith, c .place-size .ensures, length-place-if (c .args .shape .place) (place-of (c .args .fields .place)), c .in-Some .ensures tt .2)
+    omega (
+      arith,
+      c .place-size .ensures,
+      length-place-if (c .args .shape .place) (place-of (c .args .fields .place)),
+      c .in-Some .ensures tt .2,
+    )
 
 pub returns-then-out-needed : need.returns-then-out-needed
 returns-then-out-needed c =
@@ -26,7 +31,14 @@ pub put-place-if-at-requires : need.put-place-if-at-requires
 put-place-if-at-requires c κs =
     let few : c .args .shape .numbers ≤ length (c .args .fields .numbers) = omega arith in
     let n = wrote-first _ _ (c .args .fields .numbers) (c .args .shape .numbers) _ _ few (c .put-numbers-at .ensures) in
-    omega (arith, n .1, c .put-byte-at .ensures .ends, c .put-byte-at .ensures .long, c .put-numbers-at .ensures .long, c .place-size .ensures)
+    omega (
+      arith,
+      n .1,
+      c .put-byte-at .ensures .ends,
+      c .put-byte-at .ensures .long,
+      c .put-numbers-at .ensures .long,
+      c .place-size .ensures,
+    )
 
 pub put-list-if-requires : need.put-list-if-requires
 put-list-if-requires c κs =

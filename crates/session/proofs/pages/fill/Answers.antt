@@ -12,5 +12,6 @@ returns c =
     let n : ℕ = length ws in
     let z : n - 0 ≡ n = omega arith in
     let cleared : c .clear .last .words ≡ replicate 1024 0 = c .clear .ensures ∙ ap (λ k. replicate k 0) (c .pre .0) in
-    ap (λ t. c .copy-from-slice .last .self ++ drop (n - 0) t) cleared ∙ ap (λ t. t ++ drop (n - 0) (replicate 1024 0)) (c .copy-from-slice .ensures .after)
+    ap (λ t. c .copy-from-slice .last .self ++ drop (n - 0) t) cleared ∙ ap (λ t. t ++ drop (n - 0) (replicate 1024 0))
+    (c .copy-from-slice .ensures .after)
     ∙ ap (λ k. ws ++ drop k (replicate 1024 0)) z ∙ ap (λ t. ws ++ t) (drop-replicate n 1024 0)

@@ -18,7 +18,8 @@ returns c =
     let start : n * 1024 ≡ 1024 * n = omega arith in
     let size : (n * 1024 + 1024) - n * 1024 ≡ 1024 = omega arith in
     record {
-      done = sym (and-from _ _ (lt-ltb n (length all / 1024) (c .if-number-all .left)) (le-leb (length (c .args .words .now)) 1024 (c .if-words-gt-WORDS .left)));
+      done = sym (and-from _ _ (lt-ltb n (length all / 1024) (c .if-number-all .left)) (le-leb (length (c .args .words .now)) 1024
+          (c .if-words-gt-WORDS .left)));
       after = ap (λ k. putMid (n * 1024) k all (c .fill .last .page)) size ∙ ap (λ t. putMid (n * 1024) 1024 all t) (c .fill .ensures)
           ∙ ap (λ k. putMid k 1024 all ws) start ∙ ap (λ t. take (1024 * n) all ++ (ws ++ t)) (drop-drop 1024 (1024 * n) all);
     }

@@ -29,6 +29,7 @@ returns c =
     let n : ℕ = getD bs at 0 in (
       refl,
       list-there (c .args .most) at bs (omega arith) (omega arith) (omega arith)
-          ∙ ap (λ ns. got ns (drop (at + 1 + 8 * n) bs)) (sym (part-numbers n _ (drop (at + 1) bs) (omega arith) (simp length-drop (omega arith)))),
+          ∙ ap (λ ns. got ns (drop (at + 1 + 8 * n) bs)) (sym (part-numbers n _ (drop (at + 1) bs) (omega arith) (simp length-drop
+          (omega arith)))),
       omega arith,
     )

@@ -27,7 +27,8 @@ returns c =
     let bs : List ℕ = c .args .self .now .bytes .now in
     let b : getD (drop at bs) 16 0 ≡ getD bs (at + 16) 0 = getD-drop at bs 16 0 in
     let t : number-in (drop at bs) ≡ c .number-at-table .result = sym (c .number-at-table .ensures) in
-    let s : number-in (drop 8 (drop at bs)) ≡ c .number-at-slot .result = ap number-in (drop-drop 8 at bs) ∙ sym (c .number-at-slot .ensures) in (
+    let s : number-in (drop 8 (drop at bs)) ≡ c .number-at-slot .result = ap number-in (drop-drop 8 at bs)
+    ∙ sym (c .number-at-slot .ensures) in (
       refl,
       place-there (drop at bs) (simp length-drop (omega arith)) (omega arith) ∙ rw (b, t, s, drop-drop 17 at bs) refl,
       omega arith,

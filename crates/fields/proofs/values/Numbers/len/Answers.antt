@@ -7,4 +7,5 @@ use Rattle.fields.proofs.values.Numbers.len.Needs as need
 
 pub returns-in-Lent : need.returns-in-Lent
 returns-in-Lent c =
-    sym (ap (λ n. length (numbers-of n)) (c .in-Lent .is) ∙ length-numbers-in (length (c .in-Lent .bytes .now) / 8) (c .in-Lent .bytes .now))
+    sym (ap (λ n. length (numbers-of n)) (c .in-Lent .is) ∙ length-numbers-in (length (c .in-Lent .bytes .now) / 8)
+    (c .in-Lent .bytes .now))

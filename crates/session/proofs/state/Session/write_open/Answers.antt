@@ -10,6 +10,7 @@ returns c = record {
   done = c .write .ensures .done ∙ ap (λ xs. page-fits xs (c .args .page) (c .args .words .now)) (c .as-mut-slice .ensures .value);
   after = refilled-with (c .args .self .now .open) (c .write .last .all) _ (c .write .kept .all) (c .as-mut-slice .ensures .value)
       ∙ c .write .ensures .after
-      ∙ ap (λ xs. cond (c .write .result) (page-put xs (c .args .page) (whole-page (c .args .words .now))) xs) (c .as-mut-slice .ensures .value);
+      ∙ ap (λ xs. cond (c .write .result) (page-put xs (c .args .page) (whole-page (c .args .words .now))) xs)
+      (c .as-mut-slice .ensures .value);
   others = (refl, refl);
 }
