@@ -1,7 +1,6 @@
 // Plays a file of calls, and prints what each is answered.
 mod options;
 mod player;
-mod show;
 
 use options::Options;
 use options::Source;

@@ -1,5 +1,4 @@
 // A file's lines, one after the other.
-use crate::show;
 use answers::Answer;
 use answers::Refusal;
 use monitor::Limits;
@@ -31,6 +30,32 @@ pub struct Prints {
     pub echo: bool,
 }
 
+// Writes an answer's line.
+fn show_answer<W: Write>(answer: Answer<'_>, shown: &mut String, out: &mut W) -> io::Result<()> {
+    shown.clear();
+    if script::show_answer(answer, shown).is_err() {
+        return Err(io::Error::from(io::ErrorKind::OutOfMemory));
+    }
+    out.write_all(shown.as_bytes())?;
+    out.write_all(b"\n")
+}
+
+// Writes a page's line.
+fn show_page<W: Write>(
+    open: bool,
+    page: u64,
+    words: &[u32],
+    shown: &mut String,
+    out: &mut W,
+) -> io::Result<()> {
+    shown.clear();
+    if script::show_page(open, page, words, shown).is_err() {
+        return Err(io::Error::from(io::ErrorKind::OutOfMemory));
+    }
+    out.write_all(shown.as_bytes())?;
+    out.write_all(b"\n")
+}
+
 // Reads one line, without its end; false after the last.
 fn next_line<R: Read>(reader: &mut BufReader<R>, text: &mut Vec<u8>) -> io::Result<bool> {
     text.clear();
@@ -58,6 +83,7 @@ fn call<W: Write>(
     session: &mut Session,
     bytes: &[u8],
     system: bool,
+    shown: &mut String,
     out: &mut W,
 ) -> io::Result<()> {
     let mut told = [0u8; 17];
@@ -65,11 +91,11 @@ fn call<W: Write>(
         return Ok(());
     };
     if !system {
-        return show::answer(out, reply.answer);
+        return show_answer(reply.answer, shown, out);
     }
     let count = reply.told.min(told.len());
     match answers::read(&told[0..count]) {
-        Ok(answer) => show::answer(out, answer),
+        Ok(answer) => show_answer(answer, shown, out),
         Err(_) => Ok(()),
     }
 }
@@ -79,18 +105,17 @@ fn print<W: Write>(
     open: bool,
     page: u64,
     line: u64,
+    shown: &mut String,
     out: &mut W,
 ) -> io::Result<()> {
-    if open {
-        match session.open_page(page) {
-            Some(words) => show::page(out, "open", page, words),
-            None => show::answer(out, unreadable(line)),
-        }
+    let found = if open {
+        session.open_page(page)
     } else {
-        match session.closed_page(page) {
-            Some(words) => show::page(out, "closed", page, words),
-            None => show::answer(out, unreadable(line)),
-        }
+        session.closed_page(page)
+    };
+    match found {
+        Some(words) => show_page(open, page, words, shown, out),
+        None => show_answer(unreadable(line), shown, out),
     }
 }
 
@@ -108,6 +133,7 @@ fn act<W: Write>(
     text: &[u8],
     line: u64,
     prints: Prints,
+    shown: &mut String,
     out: &mut W,
 ) -> io::Result<()> {
     let mut bytes = [0u8; 2048];
@@ -119,7 +145,13 @@ fn act<W: Write>(
     }
     match what {
         Line::Skip => Ok(()),
-        Line::Call { length } => call(session, &bytes[0..length.min(2048)], prints.system, out),
+        Line::Call { length } => call(
+            session,
+            &bytes[0..length.min(2048)],
+            prints.system,
+            shown,
+            out,
+        ),
         Line::Write { open, page, count } => {
             let words = &words[0..count.min(1024)];
             let done = if open {
@@ -130,11 +162,11 @@ fn act<W: Write>(
             if done {
                 Ok(())
             } else {
-                show::answer(out, unreadable(line))
+                show_answer(unreadable(line), shown, out)
             }
         }
-        Line::Print { open, page } => print(session, open, page, line, out),
-        Line::Limits { .. } | Line::Unreadable => show::answer(out, unreadable(line)),
+        Line::Print { open, page } => print(session, open, page, line, shown, out),
+        Line::Limits { .. } | Line::Unreadable => show_answer(unreadable(line), shown, out),
     }
 }
 
@@ -160,6 +192,7 @@ fn lines<R: Read, W: Write>(
     prints: Prints,
 ) -> io::Result<Ended> {
     let mut text = Vec::new(heap);
+    let mut shown = String::new(heap);
     let mut playing: Option<Session> = None;
     for line in 0..u64::MAX {
         if !next_line(reader, &mut text)? {
@@ -169,7 +202,7 @@ fn lines<R: Read, W: Write>(
             };
         }
         match &mut playing {
-            Some(session) => act(session, text.as_slice(), line, prints, out)?,
+            Some(session) => act(session, text.as_slice(), line, prints, &mut shown, out)?,
             None => match first(heap, text.as_slice(), line) {
                 None => {}
                 Some(Ok(session)) => playing = Some(session),

@@ -45,7 +45,8 @@ before-cut text n b e =
     b ∙ ap (λ z. (take n text ++ z, parted (drop n text) .1)) e ∙ ap (λ z. (z, parted (drop n text) .1)) (append-nil (take n text))
     ∙ ap (λ z. (take n text, z)) (none-in-front (drop n text) e)
 
-pub before-space : (text : List ℕ) (n : ℕ) → n < length text → getD text n 0 ≡ 32 → Before text n → parted text ≡ (take n text, words (drop n text))
+pub before-space : (text : List ℕ) (n : ℕ) → n < length text → getD text n 0 ≡ 32 → Before text n →
+    parted text ≡ (take n text, words (drop n text))
 before-space text n h e b =
     before-cut text n b (ap (λ t. parted t .0) (drop-more text n 0 h ∙ ap (λ x. x ∷ drop (n + 1) text) e))
 

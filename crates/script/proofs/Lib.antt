@@ -3,3 +3,5 @@ pub mod Figures
 pub mod Series
 pub mod Standing
 pub mod Trying
+pub mod Printing
+pub mod Carrying

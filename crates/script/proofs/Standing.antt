@@ -21,7 +21,8 @@ use Rattle.script.specs.Lines.{call-with}
 use Rattle.script.specs.Forms.{Form, forms}
 use Rattle.script.specs.Said.{Stands, Callable, Sound}
 
-pub not-unwritten : (fits : Bool) (bytes was is : List ℕ) (e : Unwritten) → Written fits bytes was is (Err e) → fits ≡ true → length bytes ≤ length was → ⊥
+pub not-unwritten : (fits : Bool) (bytes was is : List ℕ) (e : Unwritten) → Written fits bytes was is (Err e) → fits ≡ true →
+    length bytes ≤ length was → ⊥
 not-unwritten fits bytes was is TooMany w f h = let z : true ≡ false = sym f ∙ w .0 in let y : _≡_ {A = ℕ} 0 1 = cc in omega arith
 not-unwritten fits bytes was is (TooShort n) w f h = omega (arith, w .1, w .2)
 
@@ -35,10 +36,11 @@ stands-written c n was is w = record {
 pub put-fields : (c d : model.Call) (n : ℕ) (was is : List ℕ) → c ≡ d → Written (carried c) (write-call c) was is (Ok n) → Stands d n is
 put-fields c d n was is e w = let P : model.Call → Type 0 = λ x. Stands x n is in subst P e (stands-written c n was is w)
 
-pub put-fails : (c : model.Call) (n : ℕ) (f : Body) (was is : List ℕ) (e : Unwritten) → c ≡ call-with n f → Callable n f → 2042 ≤ length was →
-    Written (carried c) (write-call c) was is (Err e) → ⊥
+pub put-fails : (c : model.Call) (n : ℕ) (f : Body) (was is : List ℕ) (e : Unwritten) → c ≡ call-with n f → Callable n f →
+    2042 ≤ length was → Written (carried c) (write-call c) was is (Err e) → ⊥
 put-fails c n f was is e same ok room w =
-    not-unwritten (carried c) (write-call c) was is e w (ap carried same ∙ ok .short) (omega (arith, ok .room, ap (λ x. length (write-call x)) same))
+    not-unwritten (carried c) (write-call c) was is e w (ap carried same ∙ ok .short)
+    (omega (arith, ok .room, ap (λ x. length (write-call x)) same))
 
 interrupt-front : (was is ns : List ℕ) (n : ℕ) → n ≡ length ns → 2 ≤ length was → Wrote was is 2 (numbers-bytes ns) (2 + 8 * n) →
     take (2 + 8 * n) (set (set is 0 21) 1 n) ≡ 21 ∷ (length ns ∷ numbers-bytes ns)
@@ -51,8 +53,8 @@ interrupt-front (x ∷ (y ∷ was)) is ns n e h w =
     ap (λ z. take (2 + 8 * n) (set (set z 0 21) 1 n)) (w .there) ∙ ap (λ k. take k (21 ∷ (n ∷ (numbers-bytes ns ++ rest)))) two
     ∙ ap (λ z. 21 ∷ (n ∷ z)) (take-at (numbers-bytes ns) rest (8 * n) l) ∙ ap (λ k. 21 ∷ (k ∷ numbers-bytes ns)) e
 
-pub interrupt-stands : (was is ns : List ℕ) (n : ℕ) → n ≡ length ns → n ≤ 255 → 2042 ≤ length was → Wrote was is 2 (numbers-bytes ns) (2 + 8 * n) →
-    Stands (model.by-cell (model.interrupt ns)) (2 + 8 * n) (set (set is 0 21) 1 n)
+pub interrupt-stands : (was is ns : List ℕ) (n : ℕ) → n ≡ length ns → n ≤ 255 → 2042 ≤ length was →
+    Wrote was is 2 (numbers-bytes ns) (2 + 8 * n) → Stands (model.by-cell (model.interrupt ns)) (2 + 8 * n) (set (set is 0 21) 1 n)
 unfolding write-call calls numbers-bytes
 interrupt-stands was is ns n e few room w = record {
   within = simp length-set (omega (arith, w .long));

@@ -86,7 +86,8 @@ unfolding as-form
 as-none f ws e = rw (sym e) refl
 
 pub as-kind : (f : Form) (ws : List (List ℕ)) (t : Taken) (rest : List (List ℕ)) (k : Kind) (r : Line) (bytes page : List ℕ) →
-    Some (t, rest) ≡ fit (words (f .text)) ws nothing-taken → f .kind ≡ k → Said (meant k t rest) r bytes page → Said (as-form f ws) r bytes page
+    Some (t, rest) ≡ fit (words (f .text)) ws nothing-taken → f .kind ≡ k → Said (meant k t rest) r bytes page → Said (as-form f ws) r
+    bytes page
 unfolding as-form
 as-kind f ws t rest k r bytes page e is s =
     let a : meant k t rest ≡ as-form f ws = ap (λ k. meant k t rest) (sym is) ∙ rw (sym e) refl in

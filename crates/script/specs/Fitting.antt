@@ -14,6 +14,7 @@ use Rattle.fields.specs.declared.values.Place.{Place}
 use Rattle.script.specs.Taking.{and-then, take-number, take-place}
 use Rattle.script.specs.declared.fitting.Taken.{Taken}
 
+-- before the first word
 abbrev pub nothing-taken : Taken
 nothing-taken = record { numbers = replicate 4 0; count = 0; place = nowhere }
 
@@ -22,6 +23,7 @@ abbrev pub with-number : Taken → ℕ → Option Taken
 with-number t n =
     cond (ltb (t .count) 4) (Some (record { numbers = set (t .numbers) (t .count) n; count = t .count + 1; place = t .place })) None
 
+-- and a place
 abbrev pub with-place : Taken → Place → Taken
 with-place t w = record { numbers = t .numbers; count = t .count; place = w }
 

@@ -7,6 +7,7 @@ use Rattle.script.specs.declared.forms.Kind.{Kind}
 use Rattle.script.specs.declared.forms.Kind.the-variants.{Call, HoldFrom, Interrupt, Limits, Write, Print}
 use Rattle.script.specs.declared.forms.Form as code
 
+-- a form: what its lines are, and its text
 pub record Form : Type 0 where
   pub kind : Kind
   pub text : List ℕ
@@ -18,6 +19,7 @@ form k t = record { kind = k; text = t }
 abbrev pub form-of : code.Form → Form
 form-of f = form (f .kind) (f .text .now)
 
+-- in the order in which they are tried
 abbrev pub forms : List Form
 forms =
     form (Call 0) (codes "how many")

@@ -5,3 +5,5 @@ pub mod Forms
 pub mod Fitting
 pub mod Lines
 pub mod Said
+pub mod Shown
+pub mod Promises

@@ -1,4 +1,4 @@
--- What a line is. The words of a line that is none of a form, or has more of them than its form, are not to be read.
+-- What a line is. One that no form fits, or that has words left over, cannot be read.
 use mathlib.Core.Bool.{Bool, true, false, cond}
 use mathlib.Core.List.{List, [], _∷_}
 use Prim.Native.Nat.{ℕ, _^_}
@@ -37,10 +37,12 @@ abbrev pub each : (List ℕ → Option ℕ) → List (List ℕ) → Option (List
 each f [] = Some []
 each f (w ∷ ws) = before (f w) (each f ws)
 
+-- if there are at most so many
 abbrev pub at-most : ℕ → Option (List ℕ) → Option (List ℕ)
 at-most most None = None
 at-most most (Some ns) = cond (leb (length ns) most) (Some ns) None
 
+-- if it is below a limit
 abbrev pub below : ℕ → Option ℕ → Option ℕ
 below limit None = None
 below limit (Some n) = cond (ltb n limit) (Some n) None
@@ -48,6 +50,14 @@ below limit (Some n) = cond (ltb n limit) (Some n) None
 -- a word of a page
 unfoldable pub word-of : List ℕ → Option ℕ
 word-of w = below (2 ^ 32) (number-of w)
+
+-- the registers of an interrupt
+abbrev pub registers : List (List ℕ) → Option (List ℕ)
+registers ws = at-most 255 (each number-of ws)
+
+-- what is written to a page
+abbrev pub page-words : List (List ℕ) → Option (List ℕ)
+page-words ws = at-most 1024 (each word-of ws)
 
 -- the fields of a call, but for its list
 abbrev pub taken-body : Taken → List ℕ → Body
@@ -62,6 +72,7 @@ abbrev pub alone : Line → List (List ℕ) → Option Line
 alone l [] = Some l
 alone l (w ∷ ws) = None
 
+-- a number of a line, counted from 0
 abbrev pub nth-number : Taken → ℕ → ℕ
 nth-number t k = getD (t .numbers) k 0
 
@@ -69,14 +80,16 @@ nth-number t k = getD (t .numbers) k 0
 abbrev pub meant : Kind → Taken → List (List ℕ) → Option Line
 meant (Call n) t ws = alone (call (call-with n (taken-body t []))) ws
 meant HoldFrom t ws = alone (call (call-with 4 (taken-body t (nth-number t 2 ∷ [])))) ws
-meant Interrupt t ws = mapped (λ ns. call (model.by-cell (model.interrupt ns))) (at-most 255 (each number-of ws))
+meant Interrupt t ws = mapped (λ ns. call (model.by-cell (model.interrupt ns))) (registers ws)
 meant Limits t ws = alone (limits (nth-number t 0) (nth-number t 1)) ws
-meant (Write open-page) t ws = mapped (λ ns. write open-page (nth-number t 0) ns) (at-most 1024 (each word-of ws))
+meant (Write open-page) t ws = mapped (λ ns. write open-page (nth-number t 0) ns) (page-words ws)
 meant (Print open-page) t ws = alone (print open-page (nth-number t 0)) ws
 
+-- a line as one form has it
 unfoldable pub as-form : Form → List (List ℕ) → Option Line
 as-form f ws = and-then (fit (words (f .text)) ws nothing-taken) (λ t rest. meant (f .kind) t rest)
 
+-- the first of two that is something
 abbrev pub or-else : Option Line → Option Line → Option Line
 or-else (Some l) o = Some l
 or-else None o = o

@@ -12,7 +12,7 @@ use Rattle.fields.specs.Bytes.{numbers-bytes}
 use Rattle.fields.specs.Shapes.{Body}
 use Rattle.fields.specs.Tables.{find}
 use Rattle.fields.specs.Steps.{Wrote}
-use Rattle.calls.specs.Table.{table, carried, write-call}
+use Rattle.calls.specs.Table.{table, carried, write-call, read-call}
 use Rattle.script.specs.Lines as line
 use Rattle.script.specs.Lines.{call-with}
 use Rattle.script.specs.declared.forms.Kind.{Kind}
@@ -33,6 +33,15 @@ Said o (Call n) bytes words = (c : model.Call) × (o ≡ Some (line.call c)) × 
 Said o (Write open-page page n) bytes words = (o ≡ Some (line.write open-page page (take n words))) × (n ≤ 1024)
 Said o (Print open-page page) bytes words = o ≡ Some (line.print open-page page)
 Said o Unreadable bytes words = o ≡ None
+
+-- The bytes of a call are read back as that call.
+abbrev pub Back : Option line.Line → Line → List ℕ → Type 0
+Back o (Call n) bytes = (c : model.Call) → o ≡ Some (line.call c) → read-call (take n bytes) ≡ c
+Back o Skip bytes = Unit {0}
+Back o (Limits closed-pages open-pages) bytes = Unit {0}
+Back o (Write open-page page n) bytes = Unit {0}
+Back o (Print open-page page) bytes = Unit {0}
+Back o Unreadable bytes = Unit {0}
 
 -- a call that a number and fields make, and that its bytes can carry in the room that there is
 pub record Callable (n : ℕ) (f : Body) : Type 0 where
@@ -56,5 +65,11 @@ Listed o (Some n) was is =
     (ns : List ℕ) × (o ≡ Some ns) × (n ≡ length ns) × (n ≤ 255) × Wrote was is 2 (numbers-bytes ns) (2 + 8 * n)
 
 -- an interrupt's bytes, with these registers
-abbrev pub Interrupted : Option (List ℕ) → ℕ → List ℕ → Type 0
-Interrupted o n bytes = (ns : List ℕ) × (o ≡ Some ns) × Stands (model.by-cell (model.interrupt ns)) n bytes
+abbrev pub Interrupts : Option (List ℕ) → Option ℕ → List ℕ → Type 0
+Interrupts o None bytes = o ≡ None
+Interrupts o (Some n) bytes = (ns : List ℕ) × (o ≡ Some ns) × Stands (model.by-cell (model.interrupt ns)) n bytes
+
+-- words at the front of a page, and how many
+abbrev pub Filled : Option (List ℕ) → Option ℕ → List ℕ → Type 0
+Filled o None page = o ≡ None
+Filled o (Some n) page = (o ≡ Some (take n page)) × (n ≤ 1024)

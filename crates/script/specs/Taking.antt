@@ -21,6 +21,7 @@ abbrev pub and-then : {A B : Type 0} → Option (A × List (List ℕ)) → (A �
 and-then None f = None
 and-then (Some x) f = f (x .0) (x .1)
 
+-- a word that is a number
 abbrev pub take-number : List (List ℕ) → Option (ℕ × List (List ℕ))
 take-number [] = None
 take-number (w ∷ ws) = mapped (λ n. (n, ws)) (number-of w)
@@ -36,14 +37,16 @@ abbrev pub rights-or : Option (Bool × Bool) → List ℕ → List (List ℕ) �
 rights-or (Some r) w ws = (r, ws)
 rights-or None w ws = ((false, false), w ∷ ws)
 
+-- rights, if the first word is one of them
 abbrev pub take-rights : List (List ℕ) → (Bool × Bool) × List (List ℕ)
 take-rights [] = ((false, false), [])
 take-rights (w ∷ ws) = rights-or (right-of w) w ws
 
+-- a place of a table's number, a slot's, and rights
 abbrev pub place-with : ℕ → ℕ → (Bool × Bool) × List (List ℕ) → Place × List (List ℕ)
 place-with i j r = (record { table = i; slot = j; write = r .0 .0; run = r .0 .1 }, r .1)
 
--- a table's number, a slot's, and rights
+-- a place: two numbers, and perhaps rights
 abbrev pub take-place : List (List ℕ) → Option (Place × List (List ℕ))
 take-place ws =
     and-then (take-number ws) (λ i ws. and-then (take-number ws) (λ j ws. Some (place-with i j (take-rights ws))))

@@ -19,6 +19,7 @@ abbrev pub parted : List ℕ → List ℕ × List (List ℕ)
 parted [] = ([], [])
 parted (b ∷ bs) = cond (eqb b 32) ([], in-front (parted bs .0) (parted bs .1)) (b ∷ parted bs .0, parted bs .1)
 
+-- the words of a text
 unfoldable pub words : List ℕ → List (List ℕ)
 words bs = in-front (parted bs .0) (parted bs .1)
 

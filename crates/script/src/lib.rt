@@ -6,8 +6,19 @@ mod line;
 mod lists;
 mod numerals;
 mod reading;
+mod showing;
 mod taking;
 mod words;
 
 pub use line::Line;
 pub use reading::read;
+pub use showing::show_answer;
+pub use showing::show_page;
+ghost use Rattle.script.specs.Promises.{Lines-stand};
+
+// A number has one spelling, which is the one that is printed, and a call that a line is can be read back from its bytes.
+pub fn lines_stand() -> u8
+    ensures { λ _. ⌜ Lines-stand ⌝ }
+{
+    0
+}

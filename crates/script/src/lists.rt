@@ -1,15 +1,12 @@
 // Numbers up to a line's end.
 ghost use Prim.Native.Nat.{_+_, _≤_};
-ghost use lib.ListN.{length, take};
+ghost use lib.ListN.{length};
 ghost use mathlib.Core.Path.{_≡_};
-ghost use Rattle.std.specs.Options.{Cases};
-ghost use Rattle.std.specs.declared.option.Option.the-variants.{Some, None};
 ghost use Rattle.fields.specs.Bytes.{number-bytes};
 ghost use Rattle.fields.specs.Steps.{Wrote};
 ghost use Rattle.script.specs.Words.{words};
-ghost use Rattle.script.specs.Numerals.{number-of};
-ghost use Rattle.script.specs.Lines.{each, at-most, word-of};
-ghost use Rattle.script.specs.Said.{Listed, Interrupted};
+ghost use Rattle.script.specs.Lines.{word-of, registers, page-words};
+ghost use Rattle.script.specs.Said.{Listed, Interrupts, Filled};
 use crate::numerals::number;
 use crate::words::next;
 
@@ -23,7 +20,7 @@ fn put_number(bytes: &mut [u8], at: usize, number: u64)
 // Writes the numbers from the third byte on, and says how many there are.
 fn put_numbers(text: &[u8], bytes: &mut [u8]) -> Option<usize>
     requires { ⌜ 2042 ≤ length (now bytes) ⌝ }
-    ensures { λ r. ⌜ Listed (at-most 255 (each number-of (words (now (text .entry))))) r (now (bytes .entry)) (now (bytes .exit)) ⌝ }
+    ensures { λ r. ⌜ Listed (registers (words (now (text .entry)))) r (now (bytes .entry)) (now (bytes .exit)) ⌝ }
 {
     let mut count = 0;
     let mut rest = text;
@@ -44,7 +41,7 @@ fn put_numbers(text: &[u8], bytes: &mut [u8]) -> Option<usize>
 // Writes the call of an interrupt with these registers.
 pub fn put_interrupt(text: &[u8], bytes: &mut [u8]) -> Option<usize>
     requires { ⌜ 2042 ≤ length (now bytes) ⌝ }
-    ensures { λ r. ⌜ Cases r (at-most 255 (each number-of (words (now (text .entry)))) ≡ None) (λ n. Interrupted (at-most 255 (each number-of (words (now (text .entry))))) n (now (bytes .exit))) ⌝ }
+    ensures { λ r. ⌜ Interrupts (registers (words (now (text .entry)))) r (now (bytes .exit)) ⌝ }
 {
     let Some(count) = put_numbers(text, bytes) else {
         return None;
@@ -70,7 +67,7 @@ fn word(text: &[u8]) -> Option<u32>
 // The words of a page, and how many there are.
 pub fn put_words(text: &[u8], page: &mut [u32]) -> Option<usize>
     requires { ⌜ 1024 ≤ length (now page) ⌝ }
-    ensures { λ r. ⌜ Cases r (at-most 1024 (each word-of (words (now (text .entry)))) ≡ None) (λ n. (at-most 1024 (each word-of (words (now (text .entry)))) ≡ Some (take n (now (page .exit)))) × (n ≤ 1024)) ⌝ }
+    ensures { λ r. ⌜ Filled (page-words (words (now (text .entry)))) r (now (page .exit)) ⌝ }
 {
     let mut count = 0;
     let mut rest = text;

@@ -6,7 +6,7 @@ ghost use mathlib.Core.Path.{_≡_};
 ghost use Rattle.script.specs.Words.{words as words-of};
 ghost use Rattle.script.specs.Forms.{form-of};
 ghost use Rattle.script.specs.Lines.{taken-body, meant, as-form, skipped, line-of};
-ghost use Rattle.script.specs.Said.{Said, Callable, Sound};
+ghost use Rattle.script.specs.Said.{Said, Back, Callable, Sound};
 use crate::calling::put_call;
 use crate::calling::put_hold_from;
 use crate::fitting::Taken;
@@ -122,7 +122,8 @@ fn is_skipped(text: &[u8]) -> bool
 // What a line is. The bytes of a call, and the words to write, are put at the front of `bytes` and `words`.
 pub fn read(text: &[u8], bytes: &mut [u8], words: &mut [u32]) -> Line
     requires { ⌜ 2042 ≤ length (now bytes) ⌝ ∗ ⌜ 1024 ≤ length (now words) ⌝ }
-    ensures { λ r. ⌜ Said (line-of (now (text .entry))) r (now (bytes .exit)) (now (words .exit)) ⌝ }
+    ensures said { λ r. ⌜ Said (line-of (now (text .entry))) r (now (bytes .exit)) (now (words .exit)) ⌝ }
+    ensures back { λ r. ⌜ Back (line-of (now (text .entry))) r (now (bytes .exit)) ⌝ }
 {
     if is_skipped(text) {
         return Line::Skip;

@@ -22,6 +22,7 @@ loop-cut-again c = (
   series-more number-of _ _ _ (c .loop-cut .inv .1) _ _ (c .in-Some .ensures tt .0) _ (sym (c .in-Some-number .ensures tt)),
   simp length-append (omega arith),
   omega arith,
-  numbers-step (c .args .bytes .now) (c .loop-cut .bytes) _ (c .loop-cut .inv .0) (c .in-Some-number .number) (c .loop-cut .count) (omega arith) (omega arith)
+  numbers-step (c .args .bytes .now) (c .loop-cut .bytes) _ (c .loop-cut .inv .0) (c .in-Some-number .number) (c .loop-cut .count)
+      (omega arith) (omega arith)
       (c .pre) (c .loop-cut .inv .4) (c .put-number .ensures),
 )

@@ -16,6 +16,7 @@ pub loop-cut-again : need.loop-cut-again
 loop-cut-again c =
     let h : c .loop-cut .count < length (c .loop-cut .page) = omega arith in (
       series-more word-of _ _ _ (c .loop-cut .inv .0) _ _ (c .in-Some .ensures tt .0) _ (sym (c .in-Some-word .ensures tt))
-          ∙ ap (λ l. prefixed l (each word-of (words (c .in-Some .cut .rest .now)))) (sym (take-more-set (c .loop-cut .page) (c .loop-cut .count) (c .in-Some-word .word) h)),
+          ∙ ap (λ l. prefixed l (each word-of (words (c .in-Some .cut .rest .now))))
+          (sym (take-more-set (c .loop-cut .page) (c .loop-cut .count) (c .in-Some-word .word) h)),
       omega arith,
     )

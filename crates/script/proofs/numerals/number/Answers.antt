@@ -12,8 +12,10 @@ returns-then-word-eq1 c = sym (number-zero (c .args .word .now) (c .if-word-eq1 
 
 pub returns-else-word-eq1 : need.returns-else-word-eq1
 returns-else-word-eq1 c =
-    sym (number-leading (c .args .word .now) (omega (arith, eqb-false _ _ (sym (c .if-is-empty .ensures tt)), c .if-word-eq1 .left)) (c .if-word-eq48 .taken))
+    sym (number-leading (c .args .word .now) (omega (arith, eqb-false _ _ (sym (c .if-is-empty .ensures tt)), c .if-word-eq1 .left))
+    (c .if-word-eq48 .taken))
 
 pub returns : need.returns
 returns c =
-    c .digits .ensures ∙ sym (number-digits (c .args .word .now) (omega (arith, eqb-false _ _ (sym (c .if-is-empty .ensures tt)))) (c .if-word-eq48 .left))
+    c .digits .ensures ∙ sym (number-digits (c .args .word .now) (omega (arith, eqb-false _ _ (sym (c .if-is-empty .ensures tt))))
+    (c .if-word-eq48 .left))

@@ -8,5 +8,6 @@ returns-then-is-empty c = next-none (c .args .text .now) (c .spaces .result) (c 
 
 pub returns : need.returns
 returns c =
-    next-some (c .args .text .now) (c .spaces .result) (c .spaces .ensures .same) _ (c .letters-end .result) (take-rest (c .args .text .now) (c .spaces .result))
+    next-some (c .args .text .now) (c .spaces .result) (c .spaces .ensures .same) _ (c .letters-end .result)
+    (take-rest (c .args .text .now) (c .spaces .result))
     (c .spaces .ensures .within) (c .spaces .ensures .stops) (c .if-is-empty .ensures tt) (c .letters-end .ensures .cut)
