@@ -1,2 +1,3 @@
 pub mod Stage
 pub mod Called
+pub mod Promises

@@ -8,6 +8,7 @@ ghost use Rattle.answers.specs.Meaning.{answer-of, refusal-of};
 ghost use Rattle.calls.specs.Meaning.{call-of};
 ghost use Rattle.calls.specs.Table.{read-call};
 ghost use Rattle.monitor.specs.Stage.{answer as stage-answer, good-limits, fitting, refusing};
+ghost use Rattle.monitor.specs.Promises.{Stage-stands};
 ghost use Rattle.monitor.specs.Called.{Called, Opened};
 
 mod values;
@@ -121,4 +122,11 @@ pub fn call(
         Ok(told) => Ok(Reply { answer, told }),
         Err(unwritten) => Err(unwritten),
     }
+}
+
+// This stage is that of the definitions which has call 0 and no other.
+pub fn stage_stands() -> u8
+    ensures { λ _. ⌜ Stage-stands ⌝ }
+{
+    0
 }
