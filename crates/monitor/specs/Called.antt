@@ -14,7 +14,8 @@ use Rattle.answers.specs.Table.{write-answer}
 use Rattle.answers.specs.Meaning.{answer-of}
 use Rattle.answers.specs.Meaning.{refusal-of}
 use Rattle.answers.specs.declared.answer.Refusal.{Refusal}
-use Rattle.monitor.specs.Stage.{fitting, opened}
+use Rattle.pages.specs.Rows.{new-memory}
+use Rattle.monitor.specs.Stage.{fitting}
 use Rattle.monitor.specs.declared.values.Reply.{Reply}
 
 -- The answer is the machine's; the bytes of what the system is told of it stand at the front of the slice for them. A slice that is too
@@ -29,6 +30,6 @@ Called a before after (Err (TooShort needed)) = (needed ≡ 17) × (length befor
 -- Limits and lengths that fit one another: the memory is that of an opened monitor. Any others are refused by 2, and nothing is changed.
 abbrev pub Opened : ℕ → ℕ → ℕ → ℕ → List ℕ → List ℕ → Result (Unit {0}) Refusal → Type 0
 Opened pages opens inside outside before after (Ok _) =
-    (fitting pages opens (length before) inside outside ≡ true) × (after ≡ opened pages opens)
+    (fitting pages opens (length before) inside outside ≡ true) × (after ≡ new-memory pages opens)
 Opened pages opens inside outside before after (Err r) =
     (fitting pages opens (length before) inside outside ≡ false) × (refusal-of r ≡ record { number = 2; place = 0 }) × (after ≡ before)

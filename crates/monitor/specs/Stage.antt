@@ -1,9 +1,7 @@
 -- What this stage of the monitor does: it knows how many closed pages there are, and refuses every other call.
 use mathlib.Core.Bool.{Bool, cond, _&&_}
-use mathlib.Core.List.{List, _∷_}
 use Prim.Native.Nat.{ℕ, _+_, _*_, _≤_}
 use lib.Dec.{eqb, leb}
-use lib.ListN.{replicate}
 use Rattle.model.specs.Calls.{Call, by-system, by-cell, garbled, system-number}
 use Rattle.model.specs.Answers.{Answer, refused, number}
 
@@ -25,7 +23,3 @@ good-limits pages opens = leb 2 pages && (leb pages 4096 && leb opens 1048576)
 abbrev pub fitting : ℕ → ℕ → ℕ → ℕ → ℕ → Bool
 fitting pages opens memory inside outside =
     good-limits pages opens && (eqb memory (256 + 2048 * pages) && (eqb inside (1024 * pages) && eqb outside (1024 * opens)))
-
--- when it is opened: in its header how many closed and open pages there are, and zeros
-abbrev pub opened : ℕ → ℕ → List ℕ
-opened pages opens = pages ∷ (opens ∷ replicate (254 + 2048 * pages) 0)

@@ -1,6 +1,6 @@
 // The monitor: a call's bytes in, an answer out, over memory and pages that are lent to it.
 ghost use Prim.Native.Nat.{_*_, _≤_};
-ghost use lib.ListN.{length, getD, replicate};
+ghost use lib.ListN.{length, getD};
 ghost use mathlib.Core.Bool.{true, false};
 ghost use mathlib.Core.Path.{_≡_};
 ghost use Rattle.std.specs.Results.{Cases};
@@ -40,15 +40,6 @@ fn fits(limits: Limits, memory: usize, closed: usize, open: usize) -> bool
         && open as u64 == 1024 * limits.open
 }
 
-// Makes each word 0.
-fn clear(words: &mut [u64])
-    ensures { λ _. ⌜ now (words .exit) ≡ replicate (length (now (words .entry))) 0 ⌝ }
-{
-    for i in 0..words.len() {
-        words[i] = 0;
-    }
-}
-
 // Opens the monitor over memory and pages that are lent to it: the memory is then that of a machine without cells. Limits that are out of
 // range, and slices of another length, are refused by 2, and nothing is written.
 pub fn open(limits: Limits, memory: &mut [u64], closed: &[u32], open: &[u32]) -> Result<(), Refusal>
@@ -61,9 +52,7 @@ pub fn open(limits: Limits, memory: &mut [u64], closed: &[u32], open: &[u32]) ->
             place: 0,
         });
     }
-    clear(memory);
-    memory[0] = limits.closed;
-    memory[1] = limits.open;
+    pages::lay_out(memory, limits.closed, limits.open);
     Ok(())
 }
 
@@ -117,7 +106,7 @@ pub fn call(
     if told.len() < LONGEST {
         return Err(Unwritten::TooShort { needed: LONGEST });
     }
-    let answer = answer(memory[0], bytes);
+    let answer = answer(pages::pages(memory), bytes);
     match answers::write(answers::told_to_system(answer), told) {
         Ok(told) => Ok(Reply { answer, told }),
         Err(unwritten) => Err(unwritten),

@@ -1,7 +1,7 @@
 // Pages in a slice, 1,024 words each.
 ghost use Prim.Native.Nat.{_+_, _*_, _/_, _<_, _≤_};
 ghost use lib.Dec.{ltb};
-ghost use lib.ListN.{length, replicate};
+ghost use lib.ListN.{length};
 ghost use mathlib.Core.Bool.{true, cond};
 ghost use mathlib.Core.List.{_++_};
 ghost use mathlib.Core.Path.{_≡_};
@@ -22,21 +22,12 @@ pub fn page(all: &[u32], number: u64) -> Option<&[u32]>
     Some(&all[start..start + WORDS])
 }
 
-// Makes each word 0.
-fn clear(words: &mut [u32])
-    ensures { λ _. ⌜ now (words .exit) ≡ replicate (length (now (words .entry))) 0 ⌝ }
-{
-    for i in 0..words.len() {
-        words[i] = 0;
-    }
-}
-
 // Writes words into a page, and zeros behind them.
 fn fill(page: &mut [u32], words: &[u32])
     requires { ⌜ length (now page) ≡ 1024 ⌝ ∗ ⌜ length (now words) ≤ 1024 ⌝ }
     ensures { λ _. ⌜ now (page .exit) ≡ whole-page (now (words .entry)) ⌝ }
 {
-    clear(page);
+    page.fill(0);
     let count = words.len();
     page[0..count].copy_from_slice(words);
 }
