@@ -1,16 +1,15 @@
 -- What an answer says of a call: whether it was refused, and what it changed.
 use mathlib.Core.Path.{_≡_, refl, sym, _∙_, ap}
 use mathlib.Core.Logic.{_≢_}
-use mathlib.Core.List.{List, [], _∷_, _++_}
+use mathlib.Core.List.{List, []}
 use Prim.Native.Nat.{ℕ, _<_}
 use native.Mathlib.Omega.{arith}
-use lib.ListN.{length, getD, set}
+use lib.ListN.{length, getD}
 use lib.Seq.{getD-set-same}
 use Rattle.std.specs.declared.option.Option.{Option}
 use Rattle.std.specs.declared.option.Option.the-variants.{Some, None}
 use Rattle.model.specs.Calls.{Place, SystemCall, CellCall, Call, by-system, by-cell, garbled, hold, grow}
 use Rattle.model.specs.Answers.{Refusal, Answer, refused, done, told}
-use Rattle.model.specs.Pages.{Cell}
 use Rattle.model.specs.State.{Limits, State, Caller, caller, Edit, apply-all, zeros}
 use Rattle.std.specs.Options.{valueOr}
 use Rattle.model.specs.Refusals.{refusal, failing, cell-checks, error}

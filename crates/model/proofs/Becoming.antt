@@ -1,18 +1,15 @@
 -- What giving, taking back and stopping change of a sealed cell, and that writes of open pages change nothing of it.
 use mathlib.Core.Path.{_≡_, refl, sym, _∙_, ap, subst}
-use mathlib.Core.Bool.{Bool, true, false}
-use mathlib.Core.List.{List, [], _∷_}
+use mathlib.Core.Bool.{true}
 use Prim.Native.Nat.{ℕ, _<_}
 use native.Mathlib.Omega.{arith}
-use lib.Dec.{ltb}
 use lib.ListN.{length, set}
 use lib.Seq.{getD-set-same, getD-set-other}
 use borrow.Author.Tests.{ltb-true}
-use Rattle.std.specs.declared.option.Option.the-variants.{None}
 use Rattle.model.specs.Calls.{SystemCall, by-system, give, remove, stop}
 use Rattle.model.specs.Answers.{done}
-use Rattle.model.specs.Pages.{stopped, Cell, Entry, free, cell, spare, kind, kind-number, is-free, in-cell}
-use Rattle.model.specs.State.{Limits, State, entry, Edit, apply-all}
+use Rattle.model.specs.Pages.{stopped, Entry, free, kind, kind-number, is-free, in-cell}
+use Rattle.model.specs.State.{Limits, State, entry, apply-all}
 use Rattle.model.specs.Refusals.{checks, system-checks, there}
 use Rattle.model.specs.Monitor.{answer, edits, changed, system-edits}
 use Rattle.model.specs.Worlds.{step}

@@ -6,28 +6,26 @@ use mathlib.Core.List.{List, [], _∷_, _++_, append-assoc, append-nil}
 use Prim.Native.Nat.{ℕ}
 use native.Mathlib.Omega.{arith}
 use lib.Dec.{eqb}
-use lib.ListN.{replicate}
 use borrow.Author.Tests.{eqb-true, eqb-false}
 use Rattle.std.specs.declared.option.Option.{Option}
 use Rattle.std.specs.declared.option.Option.the-variants.{Some, None}
 use Rattle.std.specs.Options.{mapped}
 use Rattle.model.specs.Calls.{SystemCall, CellCall, Call, by-system, by-cell, garbled}
 use Rattle.model.specs.Calls.{how-many, new-cell, new-thread, new-table, hold, give, show, remove, seal, stop, enter, resume}
-use Rattle.model.specs.Calls.{leave, interrupt, fault, grow, shrink, extend, who, draw}
 use Rattle.model.specs.Answers.{Refusal}
 use Rattle.model.specs.Measured.{Part, thread-from, page-at, part-words}
-use Rattle.model.specs.Pages.{Cell, Entry, free, cell, cell-in, in-cell, kind, kind-number, is-free, at}
-use Rattle.model.specs.State.{Limits, State, entry, Caller, new-state, Edit, put-entry, measure, apply, apply-all}
+use Rattle.model.specs.Pages.{Cell, Entry, free, cell-in, in-cell, kind, kind-number, is-free, at}
+use Rattle.model.specs.State.{Limits, State, entry, Edit, put-entry, measure, apply, apply-all}
 use Rattle.model.specs.Refusals.{system-checks, checks, refusal}
-use Rattle.model.specs.Monitor.{copied, becomes-held, system-edits, cell-edits, changed, edits-or, edits, after}
+use Rattle.model.specs.Monitor.{copied, becomes-held, system-edits, changed, edits-or, edits, after}
 use Rattle.model.specs.Machine.{Machine}
 use Rattle.model.specs.Worlds.{World, Act, calls, writes, runs, new-world, running-cell, run-of, step, play, ran, ending, after-run}
 use Rattle.model.specs.Builds.{built-by, built-or, built-call, built-act, built-from, parts-words}
 use Rattle.model.specs.Promises.{Measured-is-built}
 use Rattle.model.proofs.Lists.{changed-here, getD-replicated}
 use Rattle.model.proofs.Runs.{written-pages}
-use Rattle.model.proofs.CellAt.{All-ok, all-keep, q-set, cell-cell, measured-on}
-use Rattle.model.proofs.Effects.{Pass, Effect, no-effect, system-effect, cell-effect, effect, passed}
+use Rattle.model.proofs.CellAt.{All-ok, all-keep, cell-ok, cell-cell, measured-on}
+use Rattle.model.proofs.Effects.{Pass, Effect, no-effect, cell-effect, effect, passed}
 
 words-append : (a b : List Part) → parts-words (a ++ b) ≡ parts-words a ++ parts-words b
 words-append [] b = refl
@@ -95,20 +93,9 @@ module _ (l : Limits) (s : State) (o : ℕ) (b : List Part) (h : Tells b (cell-i
   system-tells (enter t x y z) k = h
   system-tells (resume t) k = h
 
-  cell-ok : (k : Caller) (c : CellCall) → All-ok (Tells b) tt o (cell-edits l k c)
-  unfolding cell-edits cell-in
-  cell-ok k (leave m) = (tt, (tt, tt))
-  cell-ok k (interrupt rs) = (tt, (tt, tt))
-  cell-ok k (fault m) = (tt, (tt, tt))
-  cell-ok k (grow p w) = (inr tt, (tt, (tt, tt)))
-  cell-ok k (shrink p w) = (tt, (inr tt, tt))
-  cell-ok k (extend p i) = (inr tt, (tt, tt))
-  cell-ok k who = tt
-  cell-ok k (draw m) = tt
-
   cell-effects : (c : CellCall) (es : List Edit) → Effect l s (by-cell c) es → All-ok (Tells b) tt o es
   cell-effects c es (no-effect _) = tt
-  cell-effects c es (cell-effect d k i j f) = cell-ok k d
+  cell-effects c es (cell-effect d k i j f) = cell-ok (Tells b) tt o l k d
 
   garbled-effects : (n : ℕ) (es : List Edit) → Effect l s (garbled n) es → All-ok (Tells b) tt o es
   garbled-effects n es (no-effect _) = tt

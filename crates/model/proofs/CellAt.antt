@@ -1,5 +1,5 @@
 -- What edits leave of the cell whose first page is o: a property of what that page has as a cell is kept, if each edit keeps it.
-use mathlib.Core.Path.{_≡_, refl, sym, _∙_, ap}
+use mathlib.Core.Path.{_≡_}
 use mathlib.Core.Logic.{_⊎_, inl, inr, _≢_}
 use mathlib.Core.List.{List, [], _∷_}
 use Prim.Native.Nat.{ℕ}
@@ -8,11 +8,13 @@ use lib.ListN.{set}
 use Rattle.std.specs.declared.option.Option.{Option}
 use Rattle.std.specs.declared.option.Option.the-variants.{Some, None}
 use Rattle.std.specs.Options.{mapped}
+use Rattle.model.specs.Calls.{CellCall, leave, interrupt, fault, grow, shrink, extend, who, draw}
 use Rattle.model.specs.Measured.{Part, more}
 use Rattle.model.specs.Pages.{Slot, Phase, Cell, Thread, Top, Table, Entry, free, cell-in, in-cell, in-thread, in-top, in-table}
 use Rattle.model.specs.Pages.{Entries, at, table-at, changed-at, slot-put-in, table-put-by}
-use Rattle.model.specs.State.{State, entry, apply, apply-all}
+use Rattle.model.specs.State.{Limits, State, entry, Caller, apply, apply-all}
 use Rattle.model.specs.State.{Edit, put-entry, put-slot, put-table, measure, set-phase, set-thread, write-page, run}
+use Rattle.model.specs.Monitor.{cell-edits}
 use Rattle.model.proofs.Lists.{getD-set}
 
 table-cell : (f : Table → Table) (e : Entry) → cell-in (in-table f e) ≡ cell-in e
@@ -94,3 +96,15 @@ module _ (Q : Option Cell → Type 0) (q-none : Q None) (o : ℕ) where
   pub all-keep : (s : State) (es : List Edit) → Q (cell-in (entry s o)) → All-ok es → Q (cell-in (entry (apply-all s es) o))
   all-keep s [] h k = h
   all-keep s (e ∷ es) h k = all-keep (apply s e) es (ok-keeps s e h (k .0)) (k .1)
+
+  -- What a cell asks for makes or measures no cell.
+  pub cell-ok : (l : Limits) (k : Caller) (c : CellCall) → All-ok (cell-edits l k c)
+  unfolding cell-edits cell-in
+  cell-ok l k (leave m) = (tt, (tt, tt))
+  cell-ok l k (interrupt rs) = (tt, (tt, tt))
+  cell-ok l k (fault m) = (tt, (tt, tt))
+  cell-ok l k (grow p w) = (inr q-none, (tt, (tt, tt)))
+  cell-ok l k (shrink p w) = (tt, (inr q-none, tt))
+  cell-ok l k (extend p i) = (inr q-none, (tt, tt))
+  cell-ok l k who = tt
+  cell-ok l k (draw m) = tt

@@ -1,7 +1,7 @@
 -- The cell that runs, where the invariant holds: it is sealed, sees only pages that it holds, and goes on as the same cell.
 use mathlib.Core.Path.{_≡_, refl, _∙_, ap}
 use mathlib.Core.Logic.{_⊎_, inl, inr, _≢_}
-use mathlib.Core.Bool.{Bool, true, false, _&&_}
+use mathlib.Core.Bool.{Bool, true, _&&_}
 use mathlib.Core.List.{List, [], _∷_}
 use Prim.Native.Nat.{ℕ}
 use native.Mathlib.Omega.{arith}
@@ -10,9 +10,9 @@ use Rattle.std.specs.declared.option.Option.{Option}
 use Rattle.std.specs.declared.option.Option.the-variants.{Some, None}
 use Rattle.std.specs.Options.{mapped, isSome}
 use Rattle.model.specs.Calls.{CellCall, Call, by-cell, leave, interrupt, fault, grow, shrink, extend, who, draw}
-use Rattle.model.specs.Pages.{Slot, nothing, closed, opened, sealed, stopped, Entry, free, first-page, thread-of, held-by, kind}
-use Rattle.model.specs.Pages.{kind-number, part-of, is-cell, is-spare, is-held, is-in, cell-is, cell-in, slot-in, slots-in, table-at, Cell}
-use Rattle.model.specs.Pages.{Entries, at, changed-at, slot-put-in, table-put-by, phase-number, cell, thread, top, table, held, spare}
+use Rattle.model.specs.Pages.{Slot, nothing, closed, opened, Entry, free, first-page, thread-of, held-by, kind}
+use Rattle.model.specs.Pages.{kind-number, part-of, is-spare, is-held, cell-in, slot-in, slots-in, table-at, Cell}
+use Rattle.model.specs.Pages.{Entries, at, changed-at, slot-put-in, table-put-by, cell, thread, top, table, held, spare}
 use Rattle.model.specs.State.{Limits, State, entry, Caller, caller, caller-by, Edit, apply, apply-all, put-entry, put-slot, put-table}
 use Rattle.model.specs.State.{measure, set-phase, set-thread, write-page, run}
 use Rattle.model.specs.Refusals.{cell-checks}
@@ -23,6 +23,7 @@ use Rattle.model.specs.Invariant.{Invariant, Live, Slot-fits, Entry-fits}
 use Rattle.model.specs.Promises.{Invariant-holds, Registers-good}
 use Rattle.model.proofs.Lists.{getD-set}
 use Rattle.model.proofs.Effects.{Pass, Effect, no-effect, system-effect, cell-effect, effect}
+use Rattle.model.proofs.InvCalls.{sealed-live}
 use Rattle.model.proofs.ConfCalls.{cell-running}
 use Rattle.model.proofs.ConfLike.{Edits, edits-slot, edits-table, edits-measured, edits-phase, edits-thread}
 
@@ -42,10 +43,6 @@ pub record Runs (s : State) (k : Caller) : Type 0 where
   pub thread : kind (entry s (k .thread)) ≡ thread-of (k .cell)
   pub first : kind (entry s (k .cell)) ≡ first-page
   pub live : Live s (k .cell)
-
-sealed-live : (x : Entry) → is-in sealed x ≡ true → (is-cell x ≡ true) × (is-in stopped x ≡ false)
-unfolding kind kind-number cell-in cell-is phase-number
-sealed-live x h = grind arith
 
 pub runs-now : (l : Limits) (s : State) (k : Caller) → Invariant l s → caller s ≡ Some k → Runs s k
 unfolding part-of

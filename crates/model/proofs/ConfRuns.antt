@@ -24,7 +24,7 @@ use Rattle.model.proofs.Reached.{sizes}
 use Rattle.model.proofs.ConfSeen.{same-slots, same-slot, same-tables, one-caller, same-kind}
 use Rattle.model.proofs.ConfLike.{Like, Agree, set-same, to-like, from-like}
 use Rattle.model.proofs.ConfCalls.{none-among}
-use Rattle.model.proofs.ConfWritten.{written-keeps, written-both}
+use Rattle.model.proofs.Written.{written-keeps, written-both}
 use Rattle.model.proofs.ConfRunning.{Runs, runs-now, runs-well, sees, goes-on-as}
 use Rattle.model.proofs.ConfEnds.{answer-same, ends-own, ends-other}
 

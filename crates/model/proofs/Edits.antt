@@ -1,7 +1,6 @@
 -- What each edit keeps, and so what every call does.
-use mathlib.Core.Path.{_≡_, refl, sym, _∙_, ap}
+use mathlib.Core.Path.{_≡_, refl, _∙_}
 use mathlib.Core.List.{List, [], _∷_}
-use Prim.Native.Nat.{ℕ}
 use Rattle.model.specs.State.{State, apply, apply-all}
 use Rattle.model.specs.State.{Edit, put-entry, put-slot, put-table, measure, set-phase, set-thread, write-page, run}
 use Rattle.model.specs.Monitor.{edits}

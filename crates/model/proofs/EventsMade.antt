@@ -26,7 +26,7 @@ use Rattle.model.specs.Promises.{Invariant-holds, Registers-good, Worlds-are-e
 use Rattle.model.proofs.Effects.{Pass, Effect, no-effect, system-effect, cell-effect, effect}
 use Rattle.model.proofs.Reached.{reached}
 use Rattle.model.proofs.Runs.{written-pages}
-use Rattle.model.proofs.ConfWritten.{written-keeps}
+use Rattle.model.proofs.Written.{written-keeps}
 use Rattle.model.proofs.ConfRunning.{runs-well, slot-fits}
 use Rattle.model.proofs.Confidentiality.{reachable-more}
 

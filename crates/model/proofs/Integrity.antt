@@ -12,12 +12,12 @@ use Rattle.std.specs.declared.option.Option.the-variants.{Some, None}
 use Rattle.std.proofs.shelf.Ways.{tells}
 use Rattle.model.specs.Calls.{SystemCall, CellCall, Call, by-system, by-cell, how-many, new-cell, new-thread, new-table, hold, give, show}
 use Rattle.model.specs.Calls.{remove, seal, stop, enter, resume}
-use Rattle.model.specs.Pages.{slot-in, table-at, _is_, Slot, nothing, closed, opened, sealed, stopped, phase-number, Entry, free, spare}
-use Rattle.model.specs.Pages.{held-by, kind, kind-number, part-of, is-free, is-cell, is-spare, is-in, cell-in, cell-is, cell-of, Entries}
+use Rattle.model.specs.Pages.{slot-in, table-at, _is_, Slot, nothing, closed, opened, sealed, Entry, free}
+use Rattle.model.specs.Pages.{held-by, kind, kind-number, part-of, is-free, is-spare, is-in, cell-in, cell-is, cell-of, Entries}
 use Rattle.model.specs.Pages.{at}
 use Rattle.model.specs.State.{Limits, State, entry, Caller, caller, caller-by, Edit, apply, apply-all, put-entry}
 use Rattle.model.specs.Refusals.{system-checks}
-use Rattle.model.specs.Monitor.{system-edits, after}
+use Rattle.model.specs.Monitor.{system-edits}
 use Rattle.model.specs.Machine.{Machine, Good-machine, write-behind}
 use Rattle.model.specs.Worlds.{World, Act, calls, writes, runs, Possible, All-possible, step, play, run-of, running-cell, cell-by}
 use Rattle.model.specs.Worlds.{Possible-call, ran, ending, after-run, by-run}
@@ -26,8 +26,8 @@ use Rattle.model.specs.Promises.{Integrity-of-calls, Integrity-of-runs, Integr
 use Rattle.model.proofs.Lists.{getD-set}
 use Rattle.model.proofs.Runs.{Same-pages, written-pages}
 use Rattle.model.proofs.Effects.{Pass, Effect, no-effect, system-effect, cell-effect, effect}
-use Rattle.model.proofs.InvCalls.{Calls-now, who-calls, system-good, cell-good}
-use Rattle.model.proofs.InvWritten.{written-keeps}
+use Rattle.model.proofs.InvCalls.{Calls-now, who-calls, sealed-live, system-good, cell-good}
+use Rattle.model.proofs.Written.{written-keeps}
 use Rattle.model.proofs.InvHolds.{Inv, Well, well, step-well, ran-inv, own}
 use Rattle.model.proofs.IntegrityEdits.{refl-untouched, then-untouched, held-belongs, all-untouched}
 use Rattle.model.proofs.IntegrityCalls.{system-apart, cell-apart}
@@ -67,10 +67,6 @@ behind-keeps o d (closed q false b) ws s t n h p k = h p k
 behind-keeps o d (opened q true) ws s t n h p k = h p k
 behind-keeps o d (opened q false) ws s t n h p k = h p k
 
-sealed-live : (x : Entry) → is-in sealed x ≡ true → (is-cell x ≡ true) × (is-in stopped x ≡ false)
-unfolding kind kind-number cell-in cell-is phase-number
-sealed-live x h = grind arith
-
 module _ (l : Limits) (m : Machine) (g : Good-machine l m) (o : ℕ) where
   written-untouched : (w : World) (k : Caller) (chance : ℕ) → Well l m g w → Calls-now (w .state) k → k .cell ≢ o →
       Untouched o (w .state) (after-run m w (k .cell) chance)
@@ -85,7 +81,7 @@ module _ (l : Limits) (m : Machine) (g : Good-machine l m) (o : ℕ) where
       (record { table = i; slot = j; write = a; run = b }) a b e .1 in
       record {
         entries = λ p h. ap (λ d. at d p) (P .entries);
-        contents = written-keeps (k .cell) f s same (λ i j t h. behind-keeps o (s .entries) _ (f i j) s t
+        contents = written-keeps same (k .cell) f s (λ i j t h. behind-keeps o (s .entries) _ (f i j) s t
             (λ p a b e z. n (grind (arith, seen i j p a b e, z))) h) (λ p h. refl);
         none-joins = λ p h. subst (λ d. (cell-of p (at d p) is o) ≡ true) (P .entries) h;
       }

@@ -16,7 +16,7 @@ use Rattle.model.specs.Pages.{kind-number, part-of, cell-in, cell-is, is-free,
 use Rattle.model.specs.State.{Limits, State, entry, Caller, is-owner-in, apply, put-entry, put-slot}
 use Rattle.model.specs.Refusals.{system-checks, cell-checks, own-spare, may-go}
 use Rattle.model.specs.Monitor.{system-edits, cell-edits}
-use Rattle.model.specs.Changes.{belongs, concerns}
+use Rattle.model.specs.Changes.{concerns}
 use Rattle.model.proofs.Lists.{getD-set}
 use Rattle.model.proofs.Effects.{Pass}
 use Rattle.model.proofs.InvSound.{top-in, Sound}

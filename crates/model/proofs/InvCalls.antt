@@ -1,7 +1,7 @@
 -- The edits of every call are good where they are made: by the call's checks, and by what was true before.
 use mathlib.Core.Path.{_≡_, refl, _∙_, ap, subst}
 use mathlib.Core.Logic.{_⊎_, inl, inr, _≢_}
-use mathlib.Core.Bool.{Bool, true, not, _&&_}
+use mathlib.Core.Bool.{Bool, true, false, not, _&&_}
 use mathlib.Core.List.{List, [], _∷_}
 use Prim.Native.Nat.{ℕ, _<_}
 use native.Mathlib.Omega.{arith}
@@ -29,6 +29,10 @@ use Rattle.model.proofs.InvGood.{table-its, All-good, none, then, makes}
 pub the-first : (x : Entry) → is-cell x ≡ true → kind x ≡ first-page
 unfolding kind kind-number
 the-first x h = grind arith
+
+pub sealed-live : (x : Entry) → is-in sealed x ≡ true → (is-cell x ≡ true) × (is-in stopped x ≡ false)
+unfolding kind kind-number cell-in cell-is phase-number
+sealed-live x h = grind arith
 
 pub sealed-alive : (x : Entry) → is-in sealed x ≡ true → Alive x
 unfolding kind cell-in cell-is phase-number

@@ -4,7 +4,7 @@ use mathlib.Core.Bool.{Bool, true, false}
 use mathlib.Core.List.{List, []}
 use Prim.Native.Nat.{ℕ, _<_}
 use native.Mathlib.Omega.{arith}
-use lib.ListN.{length, replicate, length-set, length-replicate}
+use lib.ListN.{replicate, length-set, length-replicate}
 use Rattle.std.specs.declared.option.Option.{Option}
 use Rattle.std.specs.declared.option.Option.the-variants.{Some, None}
 use Rattle.std.specs.Options.{isSome}
@@ -21,7 +21,7 @@ use Rattle.model.specs.Promises.{Invariant-holds, Registers-good, Of-one-cell,
 use Rattle.model.proofs.Lists.{getD-any, getD-replicated}
 use Rattle.model.proofs.Edits.{all-open}
 use Rattle.model.proofs.Runs.{Same-pages, written-pages}
-use Rattle.model.proofs.Reached.{Sizes, all-sizes, reached}
+use Rattle.model.proofs.Reached.{Sizes, all-sizes, new-sizes, same-sizes, reached}
 use Rattle.model.proofs.Effects.{Effect, no-effect, system-effect, cell-effect, effect}
 use Rattle.model.proofs.InvSound.{kind-at, top-in, top-at, table-on, slot-on, Alive, Sound}
 use Rattle.model.proofs.InvGood.{table-is, table-its, All-good, all-sound}
@@ -82,11 +82,7 @@ module _ (l : Limits) (m : Machine) (g : Good-machine l m) where
       let P : Same-pages (w .state) (after-run m w (k .cell) chance) = written-pages (k .cell) _ (w .state) in
       let I = W .inv in
       record {
-        sizes = record {
-          entries = ap length (P .entries) ∙ I .sizes .entries;
-          contents = P .contents-long ∙ I .sizes .contents;
-          open-pages = P .opens-long ∙ I .sizes .open-pages;
-        };
+        sizes = same-sizes l (w .state) _ P (I .sizes);
         fits = rw (P .entries) (I .fits);
         pages = written-well l (k .cell) _ (w .state) (I .pages) (ran-well w k chance W c .pages-stay);
         sound = rw (P .entries) (I .sound);
@@ -153,11 +149,7 @@ module _ (l : Limits) (m : Machine) (g : Good-machine l m) where
   unfolding Entry-fits
   new-well = record {
     inv = record {
-      sizes = record {
-        entries = length-replicate (l .pages) free;
-        contents = length-replicate (l .pages) (zeros l);
-        open-pages = length-replicate (l .opens) (zeros l);
-      };
+      sizes = new-sizes l;
       fits = λ p. rw (getD-replicated (l .pages) p free) tt;
       pages = record { contents = new-pages (l .pages); opens = new-pages (l .opens) };
       sound = new-sound (l .pages);

@@ -7,7 +7,7 @@ use native.Mathlib.Omega.{arith}
 use lib.ListN.{length, set, replicate, length-set}
 use lib.Seq.{getD-set-same, getD-set-other}
 use Rattle.std.specs.declared.option.Option.the-variants.{Some, None}
-use Rattle.model.specs.Pages.{nothing, closed, Cell, free, cell, top, first-page, top-of, table-of, held-by, kind, part-of, cell-in}
+use Rattle.model.specs.Pages.{closed, Cell, free, cell, top, first-page, top-of, table-of, held-by, kind, part-of, cell-in}
 use Rattle.model.specs.Pages.{tables-in, Entries, at}
 use Rattle.model.proofs.Lists.{getD-set, getD-replicated}
 use Rattle.model.proofs.InvSound.{kind-at, top-in, table-on, slot-on, top-at, Alive, Sound}

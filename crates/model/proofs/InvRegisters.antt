@@ -1,6 +1,6 @@
 -- The registers of what runs are good: after every call, with what it is answered.
 use mathlib.Core.Path.{_≡_, refl}
-use mathlib.Core.Bool.{true, not}
+use mathlib.Core.Bool.{true}
 use mathlib.Core.List.{List, [], _∷_, _++_}
 use Prim.Native.Nat.{ℕ}
 use native.Mathlib.Omega.{arith}
@@ -10,7 +10,7 @@ use Rattle.std.specs.declared.option.Option.the-variants.{Some, None}
 use Rattle.std.specs.Options.{isSome}
 use Rattle.model.specs.Calls.{SystemCall, CellCall, Call, by-system, by-cell, garbled, how-many, new-cell, new-thread, new-table, hold}
 use Rattle.model.specs.Calls.{give, show, remove, seal, stop, enter, resume, leave, interrupt, fault, grow, shrink, extend, who, draw}
-use Rattle.model.specs.Answers.{Refusal, Answer, refused}
+use Rattle.model.specs.Answers.{Refusal, Answer}
 use Rattle.model.specs.Pages.{sealed, Cell, Thread, Entry, thread, thread-of, kind, part-of, cell-in, cell-is, thread-in}
 use Rattle.model.specs.State.{Limits, State, entry, word, all-words, seventeen, Caller, caller, caller-by, owner, owner-by, apply-all}
 use Rattle.model.specs.Refusals.{refusal, checks, thread-there, may-run, system-checks, system-fits, failing, cell-checks}

@@ -8,8 +8,8 @@ use native.Mathlib.Omega.{arith}
 use lib.ListN.{getD, set}
 use Rattle.std.specs.declared.option.Option.the-variants.{Some, None}
 use Rattle.model.specs.Measured.{Part}
-use Rattle.model.specs.Pages.{Slot, nothing, closed, Phase, stopped, phase-number, _is_, Thread, Top, Table, Entry, free, cell, top, table}
-use Rattle.model.specs.Pages.{spare, Kind, first-page, top-of, table-of, held-by, spare-of, kind, part-of, has-parts, cell-in, tables-in}
+use Rattle.model.specs.Pages.{Slot, nothing, closed, Phase, stopped, phase-number, _is_, Thread, Top, Table, Entry, free, cell}
+use Rattle.model.specs.Pages.{Kind, first-page, top-of, table-of, held-by, spare-of, kind, part-of, has-parts, cell-in, tables-in}
 use Rattle.model.specs.Pages.{slots-in, cell-is, is-in, in-cell, in-thread, in-top, in-table, Entries, at}
 use Rattle.model.proofs.CellAt.{measured-on, in-phase}
 use Rattle.model.proofs.Lists.{getD-set}

@@ -4,6 +4,7 @@ mod Lists
 mod Edits
 mod Answered
 mod Effects
+mod Written
 mod Runs
 mod Reached
 mod Becoming
@@ -28,7 +29,6 @@ mod Integrity
 mod ConfSeen
 mod ConfLike
 mod ConfCalls
-mod ConfWritten
 mod ConfRunning
 mod ConfEnds
 mod ConfRuns

@@ -1,14 +1,13 @@
 -- Induction over worlds that can be; and sizes, which never change.
-use mathlib.Core.Path.{_≡_, refl, sym, _∙_, ap, subst}
-use mathlib.Core.Bool.{true}
+use mathlib.Core.Path.{_≡_, refl, _∙_, ap, subst}
 use mathlib.Core.List.{List, [], _∷_}
 use Prim.Native.Nat.{ℕ}
-use lib.ListN.{length, set, replicate, length-set, length-replicate}
+use lib.ListN.{length, length-set, length-replicate}
 use Rattle.std.specs.declared.option.Option.{Option}
 use Rattle.std.specs.declared.option.Option.the-variants.{Some, None}
 use Rattle.model.specs.Calls.{Call, by-cell}
 use Rattle.model.specs.Pages.{Slot, Cell, free, Entries, at, cell-in, table-at, slot-put-in, table-put-by}
-use Rattle.model.specs.State.{Limits, State, zeros, apply, apply-all}
+use Rattle.model.specs.State.{Limits, State, zeros, new-state, apply, apply-all}
 use Rattle.model.specs.State.{Edit, put-entry, put-slot, put-table, measure, set-phase, set-thread, write-page, run}
 use Rattle.model.specs.Monitor.{edits, after}
 use Rattle.model.specs.Machine.{Machine}
@@ -62,6 +61,20 @@ all-sizes l s (e ∷ es) h = all-sizes l (apply s e) es (apply-sizes l s e h)
 after-sizes : (l : Limits) (s : State) (c : Call) → Sizes l s → Sizes l (after l s c)
 after-sizes l s c h = all-sizes l s (edits l s c) h
 
+pub new-sizes : (l : Limits) → Sizes l (new-state l)
+new-sizes l = record {
+  entries = length-replicate (l .pages) free;
+  contents = length-replicate (l .pages) (zeros l);
+  open-pages = length-replicate (l .opens) (zeros l);
+}
+
+pub same-sizes : (l : Limits) (s t : State) → Same-pages s t → Sizes l s → Sizes l t
+same-sizes l s t k h = record {
+  entries = ap length (k .entries) ∙ h .entries;
+  contents = k .contents-long ∙ h .contents;
+  open-pages = k .opens-long ∙ h .open-pages;
+}
+
 step-sizes : (l : Limits) (m : Machine) (w : World) (a : Act) → Sizes l (w .state) → Sizes l (step l m w a .state)
 unfolding step run-of
 step-sizes l m w (calls c) h = after-sizes l (w .state) c h
@@ -72,19 +85,9 @@ step-sizes l m w (runs chance) h = go (running-cell (w .state))
     go : (c : Option ℕ) → Sizes l (run-of l m w chance c .state)
     go None = h
     go (Some c) =
-        let k : Same-pages (w .state) (after-run m w c chance) = written-pages c (ran m w c chance .words) (w .state) in
         after-sizes l (after-run m w c chance) (by-cell (ending m w c chance))
-        (record {
-          entries = ap length (k .entries) ∙ h .entries;
-          contents = k .contents-long ∙ h .contents;
-          open-pages = k .opens-long ∙ h .open-pages;
-        })
+        (same-sizes l (w .state) _ (written-pages c (ran m w c chance .words) (w .state)) h)
 
 pub sizes : (l : Limits) (m : Machine) (w : World) → Reachable l m w → Sizes l (w .state)
 sizes l m w r =
-    reached l m (λ v. Sizes l (v .state)) (λ v a h k. step-sizes l m v a k)
-    (record {
-      entries = length-replicate (l .pages) free;
-      contents = length-replicate (l .pages) (zeros l);
-      open-pages = length-replicate (l .opens) (zeros l);
-    }) w r
+    reached l m (λ v. Sizes l (v .state)) (λ v a h k. step-sizes l m v a k) (new-sizes l) w r

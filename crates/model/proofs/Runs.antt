@@ -1,14 +1,14 @@
 -- What a run changes before the call that ends it: words of pages, and nothing else.
-use mathlib.Core.Path.{_≡_, refl, sym, _∙_, ap}
+use mathlib.Core.Path.{_≡_, refl, _∙_}
 use mathlib.Core.Bool.{Bool, true, false, cond}
-use mathlib.Core.List.{List, [], _∷_}
-use Prim.Native.Nat.{ℕ, suc}
+use mathlib.Core.List.{List}
+use Prim.Native.Nat.{ℕ}
 use lib.ListN.{length, set, length-set}
 use Rattle.std.specs.declared.option.Option.{Option}
-use Rattle.std.specs.declared.option.Option.the-variants.{Some, None}
-use Rattle.model.specs.Pages.{Slot, nothing, closed, opened, Entries, at, slots-in, cell-in, tables-by}
+use Rattle.model.specs.Pages.{Slot, nothing, closed, opened, Entries}
 use Rattle.model.specs.State.{State, with-contents, with-open-pages}
-use Rattle.model.specs.Machine.{write-behind, write-slots, write-table, write-tables, written}
+use Rattle.model.specs.Machine.{write-behind, write-table, written}
+use Rattle.model.proofs.Written.{table-keeps, written-keeps}
 
 pub record Same-pages (s t : State) : Type 0 where
   pub entries : t .entries ≡ s .entries
@@ -43,22 +43,10 @@ behind-pages (opened o w) ws s =
     record { entries = refl; running = refl; contents-long = refl; opens-long = length-set (s .open-pages) o ws } in
     cond-pages w s (with-open-pages s (set (s .open-pages) o ws)) s h (refl-pages s)
 
-slots-pages : (f : ℕ → List ℕ) (j : ℕ) (zs : List Slot) (s : State) → Same-pages s (write-slots f j zs s)
-unfolding write-slots
-slots-pages f j [] s = refl-pages s
-slots-pages f j (z ∷ zs) s =
-    then-pages s (write-behind z (f j) s) _ (slots-pages f (suc j) zs (write-behind z (f j) s)) (behind-pages z (f j) s)
-
-pub table-pages : (d : Entries) (f : ℕ → List ℕ) (t : Option ℕ) (s : State) → Same-pages s (write-table d f t s)
-unfolding write-table
-table-pages d f None s = refl-pages s
-table-pages d f (Some q) s = slots-pages f 0 (slots-in (at d q)) s
-
-tables-pages : (d : Entries) (f : ℕ → ℕ → List ℕ) (i : ℕ) (ts : List (Option ℕ)) (s : State) → Same-pages s (write-tables d f i ts s)
-unfolding write-tables
-tables-pages d f i [] s = refl-pages s
-tables-pages d f i (t ∷ ts) s =
-    then-pages s (write-table d (f i) t s) _ (tables-pages d f (suc i) ts (write-table d (f i) t s)) (table-pages d (f i) t s)
+pub table-pages : (d : Entries) (f : ℕ → List ℕ) (q : Option ℕ) (s : State) → Same-pages s (write-table d f q s)
+table-pages d f q s =
+    table-keeps (Same-pages s) d f q s (λ j t h. then-pages s t _ (behind-pages _ (f j) t) h) (refl-pages s)
 
 pub written-pages : (c : ℕ) (f : ℕ → ℕ → List ℕ) (s : State) → Same-pages s (written c f s)
-written-pages c f s = tables-pages (s .entries) f 0 (tables-by (s .entries) (cell-in (at (s .entries) c))) s
+written-pages c f s =
+    written-keeps (Same-pages s) c f s (λ i j t h. then-pages s t _ (behind-pages _ (f i j) t) h) (refl-pages s)

@@ -1,26 +1,25 @@
 -- A sealed cell keeps what was measured and its top table, and never goes back, in any run.
 use mathlib.Core.Path.{_≡_, refl, _∙_, ap}
 use mathlib.Core.Logic.{inl, inr, _≢_}
-use mathlib.Core.Bool.{true, false, not}
+use mathlib.Core.Bool.{true, not}
 use mathlib.Core.List.{List, [], _∷_}
 use Prim.Native.Nat.{ℕ, _≤_}
 use native.Mathlib.Omega.{arith}
 use Rattle.std.specs.declared.option.Option.{Option}
 use Rattle.std.specs.declared.option.Option.the-variants.{Some, None}
-use Rattle.model.specs.Calls.{SystemCall, CellCall, Call, by-system, by-cell}
+use Rattle.model.specs.Calls.{SystemCall, Call, by-cell}
 use Rattle.model.specs.Calls.{how-many, new-cell, new-thread, new-table, hold, give, show, remove, seal, stop, enter, resume}
-use Rattle.model.specs.Calls.{leave, interrupt, fault, grow, shrink, extend, who, draw}
 use Rattle.model.specs.Pages.{Phase, building, sealed, stopped, phase-number, Cell, Entry, free, cell, thread, top, table, held, spare}
 use Rattle.model.specs.Pages.{kind, kind-number, is-free, is-cell, is-in, cell-is, cell-in, at}
-use Rattle.model.specs.State.{Limits, State, entry, Caller, Edit}
+use Rattle.model.specs.State.{Limits, State, entry, Edit}
 use Rattle.model.specs.Refusals.{system-checks}
-use Rattle.model.specs.Monitor.{system-edits, cell-edits, edits, after}
+use Rattle.model.specs.Monitor.{system-edits, edits, after}
 use Rattle.model.specs.Machine.{Machine}
-use Rattle.model.specs.Worlds.{World, Act, calls, writes, runs, running-cell, run-of, step, play, ran, ending, after-run}
+use Rattle.model.specs.Worlds.{World, Act, calls, writes, runs, running-cell, run-of, step, ran, ending, after-run}
 use Rattle.model.specs.Changes.{Stays-cell}
 use Rattle.model.specs.Promises.{Sealed-stays}
 use Rattle.model.proofs.Runs.{written-pages}
-use Rattle.model.proofs.CellAt.{All-ok, all-keep}
+use Rattle.model.proofs.CellAt.{All-ok, all-keep, cell-ok}
 use Rattle.model.proofs.Effects.{Pass, Effect, no-effect, system-effect, cell-effect, effect}
 
 -- A later state of the cell x.
@@ -66,21 +65,10 @@ module _ (l : Limits) (s : State) (o : ℕ) (x : Cell) (is : cell-in (entry s o)
   system-ok (enter t a b d) h = (tt, tt)
   system-ok (resume t) h = (tt, tt)
 
-  cell-ok : (k : Caller) (c : CellCall) → All-ok (Later x) tt o (cell-edits l k c)
-  unfolding cell-edits cell-in
-  cell-ok k (leave m) = (tt, (tt, tt))
-  cell-ok k (interrupt rs) = (tt, (tt, tt))
-  cell-ok k (fault m) = (tt, (tt, tt))
-  cell-ok k (grow p w) = (inr tt, (tt, (tt, tt)))
-  cell-ok k (shrink p w) = (tt, (inr tt, tt))
-  cell-ok k (extend p i) = (inr tt, (tt, tt))
-  cell-ok k who = tt
-  cell-ok k (draw m) = tt
-
   effect-ok : (c : Call) (es : List Edit) → Effect l s c es → All-ok (Later x) tt o es
   effect-ok c es (no-effect _) = tt
   effect-ok c es (system-effect d h i f) = system-ok d h
-  effect-ok c es (cell-effect d k i h f) = cell-ok k d
+  effect-ok c es (cell-effect d k i h f) = cell-ok (Later x) tt o l k d
 
   pub after-later : (c : Call) → Later x (cell-in (entry (after l s c) o))
   after-later c =

@@ -6,18 +6,18 @@ use mathlib.Core.List.{List, [], _∷_}
 use Prim.Native.Nat.{ℕ, zero, suc, _<_}
 use native.Mathlib.Omega.{arith}
 use lib.Dec.{lit<, lit≤}
-use lib.ListN.{length, getD, replicate}
+use lib.ListN.{getD, replicate}
 use Rattle.std.specs.declared.option.Option.the-variants.{Some, None}
 use Rattle.model.specs.Calls.{Place, by-system, new-cell, new-thread, new-table, hold, seal, enter, leave}
-use Rattle.model.specs.Pages.{Slot, nothing, closed, opened, writable, sealed, held-by, kind, is-held}
+use Rattle.model.specs.Pages.{Slot, nothing, closed, opened, writable, sealed}
 use Rattle.model.specs.Pages.{Entry, free, cell, thread, top, table, held}
-use Rattle.model.specs.State.{Limits, Sized, State, entry, Page, no-registers, all-words}
+use Rattle.model.specs.State.{Limits, entry, Page, no-registers, all-words}
 use Rattle.model.specs.Machine.{Machine, Good-machine, View-well}
-use Rattle.model.specs.Worlds.{World, Act, calls, writes, runs, new-world, All-possible, play, Reachable, running-cell, after-run, ending}
+use Rattle.model.specs.Worlds.{World, Act, calls, writes, runs, new-world, play, Reachable, after-run, ending}
 use Rattle.model.specs.Observers.{Alike, public-part, Same-given, gives, left-with}
 use Rattle.model.specs.Processor.{Processor, Good-processor, asks, Good-step}
 use Rattle.model.specs.Promises.{A-secret, Not-vacuous, thin, all}
-use Rattle.model.proofs.Computed.{opened-up, worlds-opened-up}
+use Rattle.model.proofs.Computed.{worlds-opened-up}
 
 -- A machine that writes nothing, and leaves.
 abbrev idle : Machine

@@ -1,10 +1,9 @@
 -- What is always true of the monitor's state: sizes, whose each page is, and that a cell sees only what it holds.
 use mathlib.Core.Path.{_≡_}
 use mathlib.Core.Bool.{Bool, true, false}
-use mathlib.Core.List.{List, []}
+use mathlib.Core.List.{[]}
 use Prim.Native.Nat.{ℕ, _<_}
 use lib.ListN.{length, getD}
-use Rattle.std.specs.declared.option.Option.{Option}
 use Rattle.std.specs.declared.option.Option.the-variants.{Some, None}
 use Rattle.model.specs.Pages.{Slot, nothing, closed, opened, sealed, stopped, Cell, Entry, free, cell, thread, top, table, held, spare}
 use Rattle.model.specs.Pages.{first-page, thread-of, top-of, table-of, held-by, kind, part-of, is-cell, is-in, slots-in, table-at}

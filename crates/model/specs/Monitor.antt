@@ -11,7 +11,7 @@ use Rattle.model.specs.Calls.{leave, interrupt, fault, grow, shrink, extend, w
 use Rattle.model.specs.Answers.{Refusal, Answer, refused, done, number, enters, told, left}
 use Rattle.model.specs.Measured.{thread-from, page-at, none-yet, name}
 use Rattle.model.specs.Pages.{nothing, closed, opened, building, sealed, stopped, Cell, Thread}
-use Rattle.model.specs.Pages.{Entry, free, cell, thread, top, table, held, spare, cell-in, thread-in}
+use Rattle.model.specs.Pages.{free, cell, thread, top, table, held, spare, cell-in, thread-in}
 use Rattle.model.specs.State.{Limits, State, entry, zeros, no-registers, Caller, caller, owner}
 use Rattle.model.specs.State.{Edit, put-entry, put-slot, put-table, measure, set-phase, set-thread, write-page, run, apply-all}
 use Rattle.model.specs.Refusals.{refusal, failing, cell-checks, error}

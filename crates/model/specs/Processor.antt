@@ -2,16 +2,16 @@
 -- registers and at most one word, or calls. It is a machine by construction, and as such does what it does on the pages in place.
 use mathlib.Core.Path.{_≡_}
 use mathlib.Core.Bool.{Bool, true, false, cond, _&&_}
-use mathlib.Core.List.{List, []}
+use mathlib.Core.List.{List}
 use Prim.Native.Nat.{ℕ, zero, suc, _/_, _%_}
 use lib.Dec.{eqb}
 use lib.ListN.{getD, set}
 use Rattle.model.specs.Calls.{CellCall, interrupt}
 use Rattle.model.specs.Pages.{Slot, nothing, closed, opened, table-at, slot-in}
-use Rattle.model.specs.State.{Limits, State, word, seventeen}
+use Rattle.model.specs.State.{State, word, seventeen}
 use Rattle.model.specs.Refusals.{cell-fits}
 use Rattle.model.specs.Machine.{View, Sight, Machine, words-behind, write-behind, ended-by}
-use Rattle.model.specs.Worlds.{World, ran, ending, after-run}
+use Rattle.model.specs.Worlds.{World}
 
 -- An address is that of a byte: which table, which slot of it, which word of the page there.
 abbrev pub table-number : ℕ → ℕ

@@ -2,7 +2,7 @@
 -- so for any set of calls that a stage has, unless sizes are named; for any machine that is good; and for any observer.
 use mathlib.Core.Path.{_≡_}
 use mathlib.Core.Logic.{_≢_}
-use mathlib.Core.Bool.{Bool, true, false, not, cond, _&&_, _||_}
+use mathlib.Core.Bool.{Bool, true, false, not, _&&_, _||_}
 use mathlib.Core.List.{List, []}
 use Prim.Native.Nat.{ℕ, _≤_, _<_}
 use lib.Dec.{ltb, eqb}
@@ -11,10 +11,10 @@ use Rattle.std.specs.declared.option.Option.{Option}
 use Rattle.std.specs.declared.option.Option.the-variants.{Some, None}
 use Rattle.std.specs.Options.{isSome}
 use Rattle.model.specs.Calls.{Place, SystemCall, Call, by-system, by-cell, hold, give, remove, stop, grow}
-use Rattle.model.specs.Answers.{Refusal, Answer, refused, done, told}
+use Rattle.model.specs.Answers.{Refusal, refused, done, told}
 use Rattle.model.specs.Pages.{closed, building, sealed, stopped, phase-number, Cell, free, cell, spare, thread-of, held-by, spare-of}
 use Rattle.model.specs.Pages.{kind, is-free, is-cell, is-in, cell-of, slot-at, _is_}
-use Rattle.model.specs.State.{Limits, Sized, State, entry, zeros, seventeen, Caller, caller, Page}
+use Rattle.model.specs.State.{Limits, Sized, State, entry, zeros, seventeen}
 use Rattle.model.specs.Monitor.{answer, after}
 use Rattle.model.specs.Machine.{Machine, Good-machine, ended-by}
 use Rattle.model.specs.Worlds.{World, Act, writes, runs, new-world, Possible, All-possible, step, play, Reachable}

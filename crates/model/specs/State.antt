@@ -1,6 +1,6 @@
 -- The monitor's state, its limits, who calls, and the edits that calls are made of.
 use mathlib.Core.Path.{_≡_}
-use mathlib.Core.Bool.{Bool, true, false, not, cond, _&&_}
+use mathlib.Core.Bool.{Bool, true, false, not, _&&_}
 use mathlib.Core.List.{List, [], _∷_}
 use Prim.Native.Nat.{ℕ, _≤_}
 use lib.Dec.{ltb, eqb}
@@ -10,7 +10,7 @@ use Rattle.std.specs.declared.option.Option.the-variants.{Some, None}
 use Rattle.std.specs.Options.{mapped}
 use Rattle.model.specs.Calls.{Place}
 use Rattle.model.specs.Measured.{Part}
-use Rattle.model.specs.Pages.{Slot, Phase, Entry, free, Cell, Thread, kind, part-of, cell-in, thread-in, is-in, Entries, at}
+use Rattle.model.specs.Pages.{Slot, Phase, Entry, free, Cell, kind, part-of, cell-in, is-in, Entries, at}
 use Rattle.model.specs.Pages.{slot-put, table-put, measured-more, phase-put, thread-put}
 
 -- How much there is of everything, and which calls the monitor can do, by their numbers.

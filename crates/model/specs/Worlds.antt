@@ -1,6 +1,6 @@
 -- Worlds: the monitor's state with the registers of the cell that runs; everything that can happen, and which worlds can be.
 use mathlib.Core.Path.{_≡_}
-use mathlib.Core.Bool.{Bool, true, false, cond}
+use mathlib.Core.Bool.{true}
 use mathlib.Core.List.{List, [], _∷_}
 use Prim.Native.Nat.{ℕ, _<_}
 use lib.ListN.{set}

@@ -1,4 +1,4 @@
--- Induction over what a cell writes in a run, in two states at once.
+-- Induction over what a cell writes in a run: in one state, and in two at once.
 use mathlib.Core.Path.{_≡_, refl}
 use mathlib.Core.List.{List, [], _∷_}
 use Prim.Native.Nat.{ℕ, suc, _+_}
@@ -38,6 +38,11 @@ module _ (P : State → State → Type 0) (d e : Entries) (same : (q : ℕ) → 
   tables-both f i (q ∷ ts) k s t h =
       tables-both f (suc i) ts (λ n j g. k (suc n) j (omega arith)) (write-table d (f i) q s) (write-table e (f i) q t)
       (table-both (f i) q (k 0 i (omega arith)) s t h)
+
+-- What is kept by each page that is written behind a slot of a table holds when all of them are written.
+pub table-keeps : (P : State → Type 0) (d : Entries) (f : ℕ → List ℕ) (q : Option ℕ) (s : State) →
+    ((j : ℕ) (t : State) → P t → P (write-behind (slot-in d q j) (f j) t)) → P s → P (write-table d f q s)
+table-keeps P d f q s k h = table-both (λ t u. P t) d d (λ p. refl) f q (λ j t u. k j t) s s h
 
 -- What holds of a state, and is kept by each word that the cell c writes at its places, holds when it has written.
 pub written-keeps : (P : State → Type 0) (c : ℕ) (f : ℕ → ℕ → List ℕ) (s : State) →
