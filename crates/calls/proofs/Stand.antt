@@ -1,5 +1,5 @@
 -- The bytes of calls keep their promises.
-use mathlib.Core.Path.{_≡_, refl, sym, ap, _∙_}
+use mathlib.Core.Path.{_≡_, refl}
 use mathlib.Core.List.{List}
 use mathlib.Core.Bool.{true, false}
 use Prim.Native.Nat.{ℕ}
@@ -22,7 +22,8 @@ use Rattle.fields.proofs.Rows.{Again, lawful-messages, fields-fit, _also_}
 use Rattle.fields.proofs.Rows.{no-numbers, one-number, two-numbers, three-numbers, four-numbers}
 use Rattle.fields.proofs.Rows.{one-and-place, two-and-place, no-and-list, two-place-option}
 use Rattle.model.specs.Calls as model
-use Rattle.model.specs.Calls.{Place, how-many, new-cell, new-thread, new-table, hold, give, show, remove, seal, stop, enter, resume, leave, interrupt, fault, grow, shrink, extend, who, draw, by-system, by-cell, garbled}
+use Rattle.model.specs.Calls.{Place, how-many, new-cell, new-thread, new-table, hold, give, show, remove, seal, stop, enter, resume}
+use Rattle.model.specs.Calls.{leave, interrupt, fault, grow, shrink, extend, who, draw, by-system, by-cell, garbled}
 use Rattle.calls.specs.Table.{table, parts, calls, carried, Carried, read-call, write-call}
 
 -- row by row: the fields of what a row makes are those that it was made of

@@ -5,7 +5,8 @@ use Rattle.std.specs.declared.result.Result.{Result}
 use Rattle.std.specs.declared.result.Result.the-variants.{Ok, Err}
 use Prim.Native.Nat.{ℕ}
 use Rattle.calls.specs.declared.call.Call.{Call}
-use Rattle.calls.specs.declared.call.Call.the-variants.{HowMany, NewCell, NewThread, NewTable, Hold, Give, Show, Remove, Seal, Stop, Enter, Resume, Leave, Interrupt, Fault, Grow, Shrink, Extend, Who, Draw}
+use Rattle.calls.specs.declared.call.Call.the-variants.{HowMany, NewCell, NewThread, NewTable, Hold, Give, Show, Remove, Seal, Stop}
+use Rattle.calls.specs.declared.call.Call.the-variants.{Enter, Resume, Leave, Interrupt, Fault, Grow, Shrink, Extend, Who, Draw}
 
 abbrev pub call-of : Call → model.Call
 call-of HowMany = model.by-system model.how-many

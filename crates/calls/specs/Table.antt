@@ -7,12 +7,13 @@ use mathlib.Core.List.{List, [], _∷_}
 use Prim.Native.Nat.{ℕ}
 use lib.ListN.{length}
 use Rattle.std.specs.shelf.Maps.{nth}
-use Rattle.std.specs.declared.option.Option.{Option}
 use Rattle.std.specs.declared.option.Option.the-variants.{Some, None}
 use Rattle.std.specs.declared.result.Result.{Result}
 use Rattle.std.specs.declared.result.Result.the-variants.{Ok, Err}
 use Rattle.std.specs.Vec.{listOf}
-use Rattle.model.specs.Calls.{Place, SystemCall, how-many, new-cell, new-thread, new-table, hold, give, show, remove, seal, stop, enter, resume, CellCall, leave, interrupt, fault, grow, shrink, extend, who, draw, Call, by-system, by-cell, garbled, system-number, cell-number}
+use Rattle.model.specs.Calls.{Place, SystemCall, how-many, new-cell, new-thread, new-table, hold, give, show, remove, seal, stop, enter}
+use Rattle.model.specs.Calls.{resume, CellCall, leave, interrupt, fault, grow, shrink, extend, who, draw, Call, by-system, by-cell}
+use Rattle.model.specs.Calls.{garbled, system-number, cell-number}
 use Rattle.fields.specs.Bytes.{Wide}
 use Rattle.fields.specs.Codec.{Codec, read-all}
 use Rattle.fields.specs.Shapes.{Body, origin}

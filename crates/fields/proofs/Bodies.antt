@@ -1,8 +1,8 @@
 -- Places, lists and whole shapes keep their promises.
-use mathlib.Core.Path.{_≡_, refl, sym, ap, _∙_, subst}
-use mathlib.Core.Bool.{Bool, true, false, cond}
-use mathlib.Core.List.{List, [], _∷_, _++_, append-assoc, append-nil}
-use Prim.Native.Nat.{ℕ, zero, suc, _+_, _*_, _-_, _/_, _%_, _^_, _≤_, _<_}
+use mathlib.Core.Path.{_≡_, refl}
+use mathlib.Core.Bool.{Bool, true, false}
+use mathlib.Core.List.{List, [], _∷_}
+use Prim.Native.Nat.{ℕ, zero, suc, _-_, _%_, _^_, _<_}
 use native.Mathlib.Omega.{arith}
 use borrow.Author.Tests.{le-leb, lt-ltb, ltb-true}
 use lib.Dec.{ltb, leb, eqb}
@@ -13,8 +13,9 @@ use Rattle.std.proofs.shelf.Elements.{all-take}
 use Rattle.std.proofs.shelf.Lists.{take-at}
 use Rattle.model.specs.Calls as model
 use Rattle.fields.specs.Bytes.{Wide}
-use Rattle.fields.specs.Codec.{Codec, byte, numbers, both}
-use Rattle.fields.specs.Shapes.{Layout, Body, padded, rights, to-place, from-place, place, origin, list, place-if, list-if, to-body, from-body, body}
+use Rattle.fields.specs.Codec.{numbers}
+use Rattle.fields.specs.Shapes.{Layout, padded, rights, to-place, from-place, place, origin, list, place-if, list-if, to-body}
+use Rattle.fields.specs.Shapes.{from-body, body}
 use Rattle.fields.proofs.Lawful.{Lawful, lawful-both, lawful-via}
 use Rattle.fields.proofs.Pieces.{lawful-nothing, lawful-byte, lawful-numbers}
 

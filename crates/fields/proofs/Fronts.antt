@@ -1,6 +1,6 @@
 -- What the pieces read, under the tests that the code makes.
-use mathlib.Core.Path.{_≡_, refl, sym, ap, _∙_, subst}
-use mathlib.Core.Bool.{Bool, true, false, cond}
+use mathlib.Core.Path.{_≡_, refl, ap, _∙_}
+use mathlib.Core.Bool.{Bool, cond}
 use mathlib.Core.List.{List, [], _∷_, _++_}
 use mathlib.Core.Logic.{⊎-elim}
 use Prim.Native.Nat.{ℕ, zero, suc, _+_, _*_, _-_, _/_, _%_, _≤_, _<_}
@@ -10,13 +10,13 @@ use borrow.Author.Tests.{le-leb, lt-leb, lt-ltb, le-ltb}
 use lib.Dec.{ltb, leb, eqb}
 use lib.ListN.{length, getD, take, drop, replicate, length-drop, length-take}
 use Rattle.std.proofs.shelf.Tests.{cases-lt}
-use Rattle.std.proofs.shelf.Lists.{drop-more, drop-all, drop-drop, drop-take, getD-take, set-at, take-all}
+use Rattle.std.proofs.shelf.Lists.{drop-more, drop-all, drop-drop, drop-take, getD-take}
 use Rattle.std.specs.shelf.Maps.{nth}
-use Rattle.std.specs.declared.option.Option.the-variants.{Some, None}
+use Rattle.std.specs.declared.option.Option.the-variants.{Some}
 use Rattle.std.specs.declared.result.Result.the-variants.{Ok, Err}
 use Rattle.model.specs.Calls as model
 use Rattle.fields.specs.Bytes.{number-in, numbers-in}
-use Rattle.fields.specs.Codec.{Got, got, lost, Codec, read-byte, byte, numbers, both, and-then, closed}
+use Rattle.fields.specs.Codec.{Got, got, lost, read-byte, numbers, closed}
 use Rattle.fields.specs.Shapes.{padded, place, list, place-if, list-if, body, layout, place-of, numbers-of, body-of}
 use Rattle.fields.specs.Steps.{all-of, rest-of, Read}
 use Rattle.fields.specs.declared.reading.Cursor.{Cursor}

@@ -2,19 +2,20 @@
 use mathlib.Core.Path.{_≡_, refl, sym, ap, _∙_, subst}
 use mathlib.Core.List.{List, [], _∷_, _++_, append-assoc, append-nil}
 use mathlib.Core.Logic.{_⊎_, inl, inr, ⊎-elim}
-use Prim.Native.Nat.{ℕ, zero, suc, _+_, _-_, _≤_, _<_}
+use Prim.Native.Nat.{ℕ, _+_, _-_, _≤_, _<_}
 use native.Mathlib.Omega.{arith}
-use lib.ListN.{length, getD, take, drop, length-append, length-take}
+use lib.ListN.{length, getD, take, length-append}
 use Rattle.std.specs.declared.result.Result.{Result}
 use Rattle.std.specs.declared.result.Result.the-variants.{Ok, Err}
-use Rattle.std.proofs.shelf.Lists.{take-append-drop, take-at, take-all, length-take-le}
+use Rattle.std.proofs.shelf.Lists.{take-at, length-take-le}
 use Rattle.std.proofs.shelf.Tests.{cases-lt}
 use Rattle.fields.specs.Bytes.{Bytes}
-use Rattle.fields.specs.Codec.{Got, got, lost, Codec, and-then, both, via, closed, read-all, Begins, Read-back, One-spelling, Ceases, Says-where}
+use Rattle.fields.specs.Codec.{Got, got, lost, Codec, and-then, both, via, closed, read-all, Begins, Read-back, One-spelling, Ceases}
+use Rattle.fields.specs.Codec.{Says-where}
 use Rattle.std.specs.Results.{Cases}
 use Rattle.fields.specs.Steps.{seen, Reading}
 use Rattle.std.proofs.shelf.Elements.{all-from-getD}
-use Rattle.fields.proofs.Lists.{begins-none, begins-more, begins-behind, begins-long, take-behind, taken-behind, all-parts}
+use Rattle.fields.proofs.Lists.{begins-more, begins-long, take-behind, taken-behind, all-parts}
 
 -- where a piece is lost with r bytes left, some value's bytes share all that stands before them
 abbrev pub Reached : {A : Type 0} → Codec A → List ℕ → ℕ → Type 0

@@ -1,10 +1,9 @@
 -- Beginnings of lists.
 use mathlib.Core.Path.{_≡_, refl, sym, ap, _∙_}
-use mathlib.Core.List.{List, [], _∷_, _++_, append-assoc, append-nil}
-use Prim.Native.Nat.{ℕ, zero, suc, _+_, _-_, _≤_, _<_}
+use mathlib.Core.List.{List, [], _∷_, _++_, append-assoc}
+use Prim.Native.Nat.{ℕ, suc, _+_, _-_, _≤_}
 use native.Mathlib.Omega.{arith}
-use lib.ListN.{length, take, drop, length-append, length-take, length-drop}
-use Rattle.std.proofs.shelf.Lists.{take-append-drop, take-at, drop-at, take-append-le, take-all, append-cancel-left}
+use lib.ListN.{length, take, length-append}
 use Rattle.std.specs.shelf.Lists.{All}
 use Rattle.fields.specs.Codec.{Begins}
 

@@ -1,20 +1,19 @@
 -- The pieces of which shapes are made keep their promises.
 use mathlib.Core.Path.{_≡_, refl, sym, ap, _∙_, subst}
-use mathlib.Core.Bool.{Bool, true, false, cond}
+use mathlib.Core.Bool.{Bool, true, false}
 use mathlib.Core.List.{List, [], _∷_, _++_, append-assoc, append-nil}
-use mathlib.Core.Logic.{_⊎_, inl, inr, ⊎-elim}
+use mathlib.Core.Logic.{_⊎_, ⊎-elim}
 use Prim.Native.Nat.{ℕ, zero, suc, _+_, _*_, _-_, _/_, _%_, _^_, _≤_, _<_}
 use native.Mathlib.Omega.{arith}
-use borrow.Author.Tests.{le-leb, lt-leb, lt-ltb, le-ltb, ltb-true, leb-true}
-use lib.Dec.{ltb, leb, eqb}
-use lib.ListN.{length, getD, take, drop, replicate, length-append, length-take, length-drop, length-replicate}
+use borrow.Author.Tests.{le-leb, lt-leb}
+use lib.ListN.{length, getD, take, drop, replicate, length-append, length-drop, length-replicate}
 use Rattle.std.specs.shelf.Lists.{All}
 use Rattle.std.proofs.shelf.Tests.{cases-lt, cases-bool}
 use Rattle.std.proofs.shelf.Elements.{all-append, all-drop}
-use Rattle.std.proofs.shelf.Lists.{drop-at, take-all, drop-drop, drop-more, take-append-drop, length-take-le, drop-all}
+use Rattle.std.proofs.shelf.Lists.{drop-at, take-all, drop-drop, drop-more, drop-all}
 use Rattle.fields.specs.Bytes.{Bytes, Wide, number-bytes, number-in, numbers-bytes, numbers-in}
-use Rattle.fields.specs.Codec.{Got, got, lost, Codec, nothing, read-byte, byte, numbers, Begins}
-use Rattle.fields.proofs.Lists.{begins-none, begins-long, take-behind, all-parts}
+use Rattle.fields.specs.Codec.{Got, got, lost, nothing, read-byte, byte, numbers, Begins}
+use Rattle.fields.proofs.Lists.{begins-none, all-parts}
 use Rattle.fields.proofs.Lawful.{Lawful, Reached, clash}
 
 pub lawful-nothing : {A : Type 0} (a : A) → Lawful (nothing a)

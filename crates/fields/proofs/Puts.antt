@@ -1,8 +1,8 @@
 -- Bytes written one after another.
 use mathlib.Core.Path.{_≡_, refl, sym, ap, _∙_}
 use mathlib.Core.Bool.{Bool, true, false}
-use mathlib.Core.List.{List, [], _∷_, _++_, append-assoc, append-nil}
-use Prim.Native.Nat.{ℕ, zero, suc, _+_, _*_, _-_, _/_, _≤_, _<_}
+use mathlib.Core.List.{List, [], _∷_, _++_, append-assoc}
+use Prim.Native.Nat.{ℕ, _+_, _*_, _-_, _/_, _≤_, _<_}
 use native.Mathlib.Omega.{arith}
 use native.Mathlib.Nat.{add-zero}
 use native.Mathlib.Numerals.{add-one}
@@ -13,7 +13,7 @@ use Rattle.std.proofs.shelf.Lists.{drop-drop, drop-at, take-at, take-append-dro
 use Rattle.std.proofs.shelf.Elements.{all-from-getD}
 use Rattle.fields.specs.Bytes.{number-bytes, numbers-bytes, numbers-in}
 use Rattle.model.specs.Calls as model
-use Rattle.fields.specs.Shapes.{Body, padded, place, list, place-if, list-if, body, layout}
+use Rattle.fields.specs.Shapes.{Body, place, list, place-if, list-if, body, layout}
 use Rattle.fields.specs.declared.values.Shape.{Shape}
 use Rattle.fields.specs.Steps.{Wrote}
 use Rattle.fields.proofs.Pieces.{length-numbers-bytes, length-numbers-in, numbers-front}

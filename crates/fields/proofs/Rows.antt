@@ -1,9 +1,9 @@
 -- A table's messages keep their promises, if each row's fields can be had back from what they make.
 use mathlib.Core.Path.{_≡_, refl, sym, ap, _∙_, subst}
-use mathlib.Core.Bool.{Bool, true, false, cond}
+use mathlib.Core.Bool.{Bool, true, false}
 use mathlib.Core.List.{List, [], _∷_, _++_}
 use mathlib.Core.Logic.{⊎-elim}
-use Prim.Native.Nat.{ℕ, zero, suc, _+_, _-_, _≤_, _<_}
+use Prim.Native.Nat.{ℕ, suc, _+_, _-_, _≤_, _<_}
 use native.Mathlib.Omega.{arith}
 use borrow.Author.Tests.{eqb-true, eqb-false, leb-true}
 use lib.Dec.{eqb}
@@ -19,7 +19,7 @@ use Rattle.model.specs.Calls as model
 use Rattle.std.specs.Vec.{listOf}
 use Rattle.std.specs.shelf.Maps.{nth}
 use Rattle.fields.specs.Bytes.{Bytes, Wide}
-use Rattle.fields.specs.Codec.{Codec, Got, got, lost, and-then, closed, read-all}
+use Rattle.fields.specs.Codec.{Got, got, lost, and-then, closed, read-all}
 use Rattle.fields.specs.Shapes.{Layout, Body, padded, origin, place-if, list-if, body, few}
 use Rattle.fields.specs.Tables.{first, second, third, fourth}
 use Rattle.fields.specs.Tables.{Row, find, layout-of, few-for, made, shaped, message, messages}

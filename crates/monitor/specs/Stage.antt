@@ -1,6 +1,6 @@
 -- What this stage of the monitor does: it knows how many closed pages there are, and refuses every other call.
 use mathlib.Core.Bool.{Bool, cond, _&&_}
-use Prim.Native.Nat.{ℕ, _+_, _*_, _≤_}
+use Prim.Native.Nat.{ℕ, _+_, _*_}
 use lib.Dec.{eqb, leb}
 use Rattle.model.specs.Calls.{Call, by-system, by-cell, garbled, system-number}
 use Rattle.model.specs.Answers.{Answer, refused, number}

@@ -17,7 +17,8 @@ use Rattle.pages.specs.Flat.{flat, Wide, Has-words, page-in, page-put}
 use Rattle.pages.specs.Packing.{slot-number, slot-from, some-number, some-from, place-from}
 use Rattle.pages.specs.Layout.{row, encode}
 use Rattle.pages.specs.Rows as rows
-use Rattle.pages.specs.Rows.{Sized, Has-page, new-memory, row-put, number-at, number-put, numbers-put, numbers-at, low-words, running-in, running-put}
+use Rattle.pages.specs.Rows.{Sized, Has-page, new-memory, row-put, number-at, number-put, numbers-put, numbers-at, low-words}
+use Rattle.pages.specs.Rows.{running-in, running-put}
 use Rattle.pages.specs.Meaning.{shown, record-in, measure-words, measure-in}
 
 -- What is packed is unpacked again.

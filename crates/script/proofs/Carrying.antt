@@ -3,7 +3,7 @@ use mathlib.Core.Path.{_≡_, refl, sym, ap, _∙_, subst}
 use mathlib.Core.Bool.{Bool, true, false, cond}
 use mathlib.Core.List.{List, [], _∷_}
 use mathlib.Core.Logic.{_⊎_, inl, inr, ⊎-elim}
-use Prim.Native.Nat.{ℕ, zero, suc, _+_, _^_, _≤_, _<_}
+use Prim.Native.Nat.{ℕ, zero, suc, _^_, _≤_, _<_}
 use native.Mathlib.Omega.{arith}
 use borrow.Author.Tests.{leb-true, le-leb}
 use lib.Chars.{codes}
@@ -18,7 +18,6 @@ use Rattle.std.proofs.shelf.Elements.{all-set}
 use Rattle.std.proofs.shelf.Tests.{cases-bool}
 use Rattle.model.specs.Calls as model
 use Rattle.fields.specs.Bytes.{Wide}
-use Rattle.fields.specs.Shapes.{Body}
 use Rattle.fields.specs.declared.values.Place.{Place}
 use Rattle.calls.specs.Table.{carried, Carried, read-call}
 use Rattle.calls.proofs.Stand.{calls-back}

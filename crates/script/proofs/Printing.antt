@@ -1,7 +1,7 @@
 -- How numbers are printed one by one, and how many words of a page are.
 use mathlib.Core.Path.{_≡_, refl, sym, ap, _∙_}
 use mathlib.Core.List.{List, [], _∷_, _++_, append-assoc, append-nil}
-use Prim.Native.Nat.{ℕ, zero, suc, _+_, _-_, _≤_, _<_}
+use Prim.Native.Nat.{ℕ, _+_, _-_, _≤_, _<_}
 use native.Mathlib.Omega.{arith}
 use borrow.Author.Tests.{ne-eqb}
 use lib.Chars.{codes}
@@ -12,7 +12,7 @@ use Rattle.std.specs.Vec.{made}
 use Rattle.std.specs.declared.option.Option.the-variants.{Some, None}
 use Rattle.std.specs.declared.result.Result.{Result}
 use Rattle.std.specs.declared.result.Result.the-variants.{Ok, Err}
-use Rattle.std.proofs.shelf.Lists.{take-more, take-all}
+use Rattle.std.proofs.shelf.Lists.{take-more}
 use Rattle.std.proofs.shelf.Maps.{nth-getD}
 use Rattle.script.specs.Shown.{spaced, with-numbers, before-words, trimmed}
 
@@ -64,9 +64,6 @@ pub trim-end : (ws : List ℕ) (n : ℕ) → 0 < n → n ≤ length ws → (getD
     take n ws ≡ trimmed ws
 trim-end ws n p h z e =
     split-last ws n p h ∙ sym (trimmed-last (take (n - 1) ws) (getD ws (n - 1) 0) z) ∙ ap trimmed (sym (split-last ws n p h)) ∙ e
-
-pub trim-none : (ws : List ℕ) (n : ℕ) → n ≡ 0 → trimmed (take n ws) ≡ trimmed ws → take n ws ≡ trimmed ws
-trim-none ws n z e = ap (λ k. take k ws) z ∙ ap (λ k. trimmed (take k ws)) (sym z) ∙ e
 
 -- one text after another
 pub printed-then : {T E : Type 0} (r : Result T E) (was mid is a b : List ℕ) → mid ≡ was ++ a → made r (λ _. is ≡ mid ++ b) →

@@ -1,9 +1,9 @@
 -- What each word is, up to a line's end, one by one.
 use mathlib.Core.Path.{_≡_, refl, sym, ap, _∙_}
-use mathlib.Core.List.{List, [], _∷_, _++_, append-assoc, append-nil}
-use Prim.Native.Nat.{ℕ, suc, _+_, _*_, _≤_, _<_}
+use mathlib.Core.List.{List, [], _∷_, _++_, append-assoc}
+use Prim.Native.Nat.{ℕ, _+_, _*_, _≤_, _<_}
 use native.Mathlib.Omega.{arith}
-use borrow.Author.Tests.{le-leb, lt-leb}
+use borrow.Author.Tests.{lt-leb}
 use lib.ListN.{length, length-append}
 use Rattle.fields.specs.Bytes.{number-bytes, numbers-bytes}
 use Rattle.fields.specs.Steps.{Wrote}
@@ -34,20 +34,12 @@ too-many ns most (Some n) (Some more) h =
 
 -- `all` is what all words come to, of which `ns` are those so far
 module _ (f : List ℕ → Option ℕ) (all : Option (List ℕ)) (ns : List ℕ) (ws : List (List ℕ)) (so-far : all ≡ prefixed ns (each f ws)) where
-  pub series-end : (most : ℕ) → ws ≡ [] → length ns ≤ most → at-most most all ≡ Some ns
-  series-end most e h =
-      let a : all ≡ Some ns = so-far ∙ ap (λ x. prefixed ns (each f x)) e ∙ ap Some (append-nil ns) in
-      rw (a, le-leb (length ns) most h) refl
-
   module _ (w : List ℕ) (rest : List (List ℕ)) (cut : ws ≡ w ∷ rest) where
     here : all ≡ prefixed ns (before (f w) (each f rest))
     here = so-far ∙ ap (λ x. prefixed ns (each f x)) cut
 
     pub series-many : (most : ℕ) → length ns ≡ most → at-most most all ≡ None
     series-many most h = ap (at-most most) here ∙ too-many ns most (f w) (each f rest) h
-
-    pub series-bad : (most : ℕ) → f w ≡ None → at-most most all ≡ None
-    series-bad most e = ap (at-most most) (here ∙ ap (λ x. prefixed ns (before x (each f rest))) e)
 
     pub series-more : (n : ℕ) → f w ≡ Some n → all ≡ prefixed (ns ++ n ∷ []) (each f rest)
     series-more n e = here ∙ ap (λ x. prefixed ns (before x (each f rest))) e ∙ prefixed-one ns n (each f rest)

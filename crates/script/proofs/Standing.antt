@@ -2,10 +2,10 @@
 use mathlib.Core.Path.{_≡_, refl, sym, ap, _∙_, subst}
 use mathlib.Core.Bool.{Bool, true, false}
 use mathlib.Core.List.{List, [], _∷_, _++_}
-use Prim.Native.Nat.{ℕ, zero, suc, _+_, _*_, _≤_, _<_}
+use Prim.Native.Nat.{ℕ, suc, _+_, _*_, _≤_}
 use native.Mathlib.Omega.{arith}
 use lib.Dec.{lit≤}
-use lib.ListN.{length, getD, set, take, drop, length-append, length-set}
+use lib.ListN.{length, set, take, drop, length-append, length-set}
 use Rattle.std.specs.shelf.Lists.{All}
 use Rattle.std.specs.declared.result.Result.the-variants.{Ok, Err}
 use Rattle.std.proofs.shelf.Lists.{take-at}
@@ -18,7 +18,7 @@ use Rattle.fields.specs.declared.values.Unwritten.the-variants.{TooMany, TooSho
 use Rattle.calls.specs.Table.{calls, carried, write-call}
 use Rattle.fields.specs.Shapes.{Body}
 use Rattle.script.specs.Lines.{call-with}
-use Rattle.script.specs.Forms.{Form, forms}
+use Rattle.script.specs.Forms.{forms}
 use Rattle.script.specs.Said.{Stands, Callable, Sound}
 
 pub not-unwritten : (fits : Bool) (bytes was is : List ℕ) (e : Unwritten) → Written fits bytes was is (Err e) → fits ≡ true →

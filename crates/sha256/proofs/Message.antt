@@ -9,7 +9,7 @@ use Rattle.std.proofs.shelf.Lists.{take-at, drop-at, take-all, take-append-drop
 use Rattle.std.proofs.shelf.Lists.{length-take-le, nil-from-length}
 use Rattle.std.proofs.shelf.Bits.{mod-pow-add, div-mul-add, mod-mul-add}
 use Rattle.sha256.specs.Sha.{State, compressed, big-endian, big-endian-words, padded, hashed, sha256, initial, digest}
-use Rattle.sha256.specs.Words.{bytes-of, words-of, swapped, block-hashed, blocks-hashed, last-words}
+use Rattle.sha256.specs.Words.{bytes-of, swapped, block-hashed, blocks-hashed, last-words}
 
 bytes-append : (xs ys : List ℕ) → bytes-of (xs ++ ys) ≡ bytes-of xs ++ bytes-of ys
 unfolding bytes-of

@@ -1,8 +1,9 @@
-use mathlib.Core.Path.{_≡_, refl, sym, ap, _∙_}
+use mathlib.Core.Path.{_≡_, refl, _∙_}
 use Prim.Native.Nat.{ℕ}
 use Rattle.calls.specs.Meaning.{call-of}
 use Rattle.calls.specs.declared.call.Call.{Call}
-use Rattle.calls.specs.declared.call.Call.the-variants.{HowMany, NewCell, NewThread, NewTable, Hold, Give, Show, Remove, Seal, Stop, Enter, Resume, Leave, Interrupt, Fault, Grow, Shrink, Extend, Who, Draw}
+use Rattle.calls.specs.declared.call.Call.the-variants.{HowMany, NewCell, NewThread, NewTable, Hold, Give, Show, Remove, Seal, Stop}
+use Rattle.calls.specs.declared.call.Call.the-variants.{Enter, Resume, Leave, Interrupt, Fault, Grow, Shrink, Extend, Who, Draw}
 use Rattle.monitor.specs.Stage.{answer, refusing}
 use Rattle.monitor.proofs.taken.Needs as need
 

@@ -1,7 +1,7 @@
 use mathlib.Core.Path.{_≡_, _∙_, ap, subst}
-use mathlib.Core.List.{List, _++_, append-assoc}
+use mathlib.Core.List.{_++_, append-assoc}
 use native.Mathlib.Omega.{arith}
-use lib.ListN.{length, take, drop, length-drop}
+use lib.ListN.{take, drop, length-drop}
 use Rattle.std.proofs.shelf.Lists.{take-append-drop, take-all}
 use Rattle.sha256.specs.Measures.{Measures}
 use Rattle.sha256_callers.proofs.two_blocks.Needs as need

@@ -1,8 +1,5 @@
-use mathlib.Core.Path.{_≡_}
-use mathlib.Core.Bool.{true}
 use native.Mathlib.Omega.{arith}
 use borrow.Author.Tests.{leb-true}
-use lib.ListN.{length}
 use Rattle.fields.specs.Shapes.{numbers-of}
 use Rattle.fields.proofs.Puts.{length-list, wrote-none}
 use Rattle.fields.proofs.writing.put_list_if.Needs as need

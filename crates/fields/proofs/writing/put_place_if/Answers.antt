@@ -1,4 +1,3 @@
-use mathlib.Core.Path.{sym}
 use native.Mathlib.Omega.{arith}
 use Rattle.fields.specs.Shapes.{place-of}
 use Rattle.fields.proofs.Puts.{length-place, wrote-none}

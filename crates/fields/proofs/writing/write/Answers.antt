@@ -1,11 +1,8 @@
-use mathlib.Core.Path.{_≡_, refl, sym, _∙_, ap}
-use mathlib.Core.List.{List}
-use Prim.Native.Nat.{ℕ, _+_, _-_, _*_, _≤_}
+use mathlib.Core.Path.{_≡_, refl}
+use Prim.Native.Nat.{_-_, _≤_}
 use native.Mathlib.Omega.{arith}
-use lib.ListN.{length, take}
-use Rattle.fields.specs.Bytes.{numbers-bytes}
-use Rattle.fields.specs.Shapes.{place-of, numbers-of, body-of, place-if, list-if, body}
-use Rattle.fields.specs.Steps.{Wrote}
+use lib.ListN.{length}
+use Rattle.fields.specs.Shapes.{place-of, body-of}
 use Rattle.fields.proofs.Puts.{length-place-if, length-message, wrote-first, wrote-message}
 use Rattle.fields.proofs.writing.write.Needs as need
 

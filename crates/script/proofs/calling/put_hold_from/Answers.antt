@@ -1,7 +1,6 @@
 use mathlib.Core.Path.{ap}
 use native.Mathlib.Omega.{arith}
 use lib.ListN.{length}
-use Rattle.fields.specs.Shapes.{body-of}
 use Rattle.script.proofs.Standing.{hold-sound}
 use Rattle.script.proofs.calling.put_hold_from.Needs as need
 

@@ -1,7 +1,7 @@
-use mathlib.Core.Path.{_≡_, refl, sym, ap, _∙_}
+use mathlib.Core.Path.{refl, sym}
 use mathlib.Core.List.{[], _∷_, _++_}
 use native.Mathlib.Omega.{arith}
-use lib.ListN.{length, length-append}
+use lib.ListN.{length-append}
 use Rattle.fields.specs.Bytes.{numbers-bytes}
 use Rattle.fields.proofs.Puts.{wrote-none}
 use Rattle.script.specs.Numerals.{number-of}

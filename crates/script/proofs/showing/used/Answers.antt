@@ -1,9 +1,9 @@
-use mathlib.Core.Path.{ap, refl}
+use mathlib.Core.Path.{ap}
 use native.Mathlib.Omega.{arith}
 use lib.ListN.{length}
 use Rattle.std.proofs.shelf.Lists.{take-all}
 use Rattle.script.specs.Shown.{trimmed}
-use Rattle.script.proofs.Printing.{trim-more, trim-end, trim-none}
+use Rattle.script.proofs.Printing.{trim-more, trim-end}
 use Rattle.script.proofs.showing.used.Needs as need
 
 pub loop-count-holds : need.loop-count-holds

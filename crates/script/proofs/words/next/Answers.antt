@@ -1,4 +1,3 @@
-use mathlib.Core.Path.{_≡_}
 use Rattle.std.proofs.shelf.Lists.{take-rest}
 use Rattle.script.proofs.Cuts.{next-none, next-some}
 use Rattle.script.proofs.words.next.Needs as need

@@ -2,7 +2,7 @@ use mathlib.Core.Path.{refl, _∙_, sym, ap}
 use mathlib.Core.List.{List}
 use Prim.Native.Nat.{ℕ, _+_, _*_}
 use native.Mathlib.Omega.{arith}
-use lib.ListN.{length, length-drop, drop, getD}
+use lib.ListN.{length-drop, drop, getD}
 use Rattle.fields.specs.Codec.{lost, got}
 use Rattle.fields.proofs.Fronts.{list-none, list-many, list-short, list-there, part-numbers}
 use Rattle.fields.proofs.reading.Cursor.list.Needs as need

@@ -1,8 +1,8 @@
 use mathlib.Core.Path.{refl, _∙_, sym, ap, _≡_}
 use mathlib.Core.List.{List, [], _∷_, _++_, append-assoc}
-use Prim.Native.Nat.{ℕ, suc, _<_, _≤_, _+_, _-_, _*_}
+use Prim.Native.Nat.{ℕ, suc, _+_, _-_, _*_}
 use native.Mathlib.Omega.{arith}
-use lib.ListN.{length, drop, set, replicate, length-drop}
+use lib.ListN.{drop, set, replicate, length-drop}
 use Rattle.std.proofs.shelf.Lists.{drop-drop, set-at}
 use Rattle.fields.specs.Bytes.{numbers-in, number-in}
 use Rattle.fields.specs.Codec.{lost, got}

@@ -2,10 +2,10 @@ use mathlib.Core.Path.{refl, _∙_, sym, ap, _≡_}
 use mathlib.Core.List.{List}
 use Prim.Native.Nat.{ℕ, _+_}
 use native.Mathlib.Omega.{arith}
-use lib.ListN.{length, length-drop, drop, getD}
+use lib.ListN.{length-drop, drop, getD}
 use Rattle.std.proofs.shelf.Lists.{getD-drop, drop-drop}
 use Rattle.fields.specs.Bytes.{number-in}
-use Rattle.fields.specs.Codec.{lost, got}
+use Rattle.fields.specs.Codec.{lost}
 use Rattle.fields.specs.Steps.{rest-of}
 use Rattle.fields.proofs.Fronts.{place-short, place-bad, place-there}
 use Rattle.fields.proofs.reading.Cursor.place.Needs as need

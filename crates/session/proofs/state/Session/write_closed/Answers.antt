@@ -1,6 +1,5 @@
 use mathlib.Core.Path.{refl, ap, _∙_}
 use mathlib.Core.Bool.{cond}
-use native.Mathlib.Omega.{arith}
 use Rattle.session.specs.Flat.{page-fits, page-put, whole-page}
 use Rattle.session.proofs.Refilled.{refilled-with}
 use Rattle.session.proofs.state.Session.write_closed.Needs as need
