@@ -1,4 +1,6 @@
 // Answers, and their bytes.
+#![tactic(auto)]
+
 mod answer;
 mod rows;
 

@@ -1,4 +1,6 @@
 // The calls by which the system builds a cell.
+#![tactic(auto)]
+
 mod cells;
 mod holding;
 mod tables;

@@ -1,4 +1,6 @@
 // The bytes of calls and answers, and what the monitor makes of them, against values that are written out.
+#![tactic(auto)]
+
 #[cfg(test)]
 mod tests {
     use answers::{Answer, Refusal};

@@ -1,4 +1,6 @@
 // Calls, and their bytes.
+#![tactic(auto)]
+
 mod call;
 mod rows;
 

@@ -1,4 +1,6 @@
 // The fields of calls and answers, read from bytes and written to them.
+#![tactic(auto)]
+
 mod numbers;
 mod reading;
 mod values;

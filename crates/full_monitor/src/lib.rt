@@ -1,4 +1,6 @@
 // The monitor: a call's bytes in, an answer out, over memory and pages that are lent to it.
+#![tactic(auto)]
+
 ghost use Rattle.std.specs.Prelude.{◌≡◌, ◌*◌, ◌≤◌, length};
 ghost use Rattle.answers.specs.Meaning.{answer_of};
 ghost use Rattle.calls.specs.Meaning.{call_of};

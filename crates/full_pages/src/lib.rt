@@ -1,4 +1,6 @@
 // The monitor's memory: a header, and a record for each closed page.
+#![tactic(auto)]
+
 mod packing;
 mod reading;
 mod values;

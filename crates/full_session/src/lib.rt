@@ -1,4 +1,6 @@
 // A session: the monitor with memory and pages of its own.
+#![tactic(auto)]
+
 mod pages;
 mod state;
 

@@ -1,4 +1,6 @@
 // The calls by which a cell that runs grows and shrinks. What is refused here is told to the cell as an error, and changes nothing.
+#![tactic(auto)]
+
 ghost use Rattle.std.specs.Prelude.{◌≡◌, ◌*◌, ◌<◌, length, slice_index};
 ghost use Rattle.std.specs.Option.{unwrap_or};
 ghost use Rattle.fields.specs.Shapes.{place_of};

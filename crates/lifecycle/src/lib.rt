@@ -1,4 +1,6 @@
 // The calls by which the system seals and stops cells, and takes pages back.
+#![tactic(auto)]
+
 ghost use Rattle.std.specs.Prelude.{◌≡◌, ◌<◌, ◌&&◌, ◌||◌, is_some, slice_index};
 ghost use Rattle.model.specs.Pages.{sealed, stopped};
 ghost use Rattle.full_pages.specs.Rows.{Sized};

@@ -1,4 +1,6 @@
 // What the memory says of the pages that a call names.
+#![tactic(auto)]
+
 ghost use Rattle.std.specs.Prelude.{◌≡◌, ◌<◌, IfSome, OnSome, slice_index};
 ghost use Rattle.fields.specs.Shapes.{place_of};
 ghost use Rattle.full_pages.specs.Rows.{Sized};

@@ -1,4 +1,6 @@
 // A made-up machine: a small processor that runs programs in cells, in place, on the lent words.
+#![tactic(auto)]
+
 mod decoding;
 mod seeing;
 mod stepping;

@@ -1,4 +1,6 @@
 // What the monitor does, as definitions, and what is promised of them: see specs/. Each function here has theorems as its contract.
+#![tactic(auto)]
+
 ghost use Rattle.model.specs.OneCell.{Plays, small, one_cell, one_name, refusals};
 ghost use Rattle.model.specs.Promises.{InvariantHolds, RegistersGood, OfOneCell, SeesItsOwn, AtOnePlace, SealedRuns};
 ghost use Rattle.model.specs.Promises.{SealedStays, HeldGetsZeros, HeldGetsOpen, GrownGets, OthersKeep};

@@ -1,4 +1,6 @@
 // The monitor for callers in C: a static library with opening and the call.
+#![tactic(auto)]
+
 ghost use Rattle.std.specs.Prelude.{length, ◌≡◌};
 ghost use Rattle.calls.specs.Table.{read_call};
 ghost use Rattle.monitor_c.specs.Replied.{fits, OpenedAs, Replied};

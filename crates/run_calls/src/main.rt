@@ -1,4 +1,6 @@
 // Plays a file of calls, and prints what each is answered.
+#![tactic(auto)]
+
 mod options;
 mod player;
 

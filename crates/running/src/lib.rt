@@ -1,4 +1,6 @@
 // Threads that run: how they are entered and resumed, and how their runs end.
+#![tactic(auto)]
+
 ghost use Rattle.std.specs.Prelude.{◌≡◌, ◌%◌, ◌<◌, true, false, cond, [], ◌∷◌, ◌++◌, replicate, None};
 ghost use Rattle.sha256.specs.Measures.{name_words};
 ghost use Rattle.full_pages.specs.Rows.{Sized};

@@ -1,4 +1,6 @@
 // The text of a file of calls: a line into a call's bytes, an answer into a line.
+#![tactic(auto)]
+
 mod calling;
 mod fitting;
 mod forms;

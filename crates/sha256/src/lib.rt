@@ -1,5 +1,7 @@
 // SHA-256 over words that come in blocks of sixteen, and the measure of a cell, which keeps a running hash of such words.
 // Words are four bytes, the low one first, where they are hashed.
+#![tactic(auto)]
+
 ghost use Rattle.std.specs.Prelude.{◌≡◌, ℕ, ◌*◌, ◌/◌, ◌%◌, List, [], ◌++◌, map, length};
 ghost use Rattle.sha256.specs.Sha.{initial, digest, sha256};
 ghost use Rattle.sha256.specs.Words.{bytes_of, words_of, swapped, block_hashed, blocks_hashed, last_words, two_words};

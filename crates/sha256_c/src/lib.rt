@@ -1,4 +1,6 @@
 // Measures for callers in C: a static library with the calls that a measurement of pages makes.
+#![tactic(auto)]
+
 ghost use Rattle.std.specs.Prelude.{◌≡◌, List, [], ◌++◌, true, false, ℕ, eqb, length};
 ghost use Rattle.sha256.specs.Sha.{sha256 as digest_of};
 ghost use Rattle.sha256.specs.Words.{bytes_of, words_of};

@@ -1,4 +1,6 @@
 // Callers of sha256: their contracts show that its contracts compose.
+#![tactic(auto)]
+
 ghost use Rattle.std.specs.Prelude.{◌≡◌, ℕ, ◌+◌, ◌*◌, ◌≤◌, List, ◌++◌, length};
 ghost use Rattle.sha256.specs.Measures.{Measures};
 ghost use Rattle.sha256.specs.Words.{bytes_of, words_of, two_words};

@@ -1,5 +1,7 @@
 // Runs vectors through sha256 and prints a digest a line. The file stdout has what another implementation makes of the same
 // messages: vectors.py writes it with Python's hashlib. The first three lines are the examples of FIPS 180-4.
+#![tactic(auto)]
+
 use sha256::{Hash, Measure, compress, start};
 use std::io;
 

@@ -8,6 +8,6 @@ use Rattle.answers.proofs.write.Goals as goal
 pub returns : goal.returns
 unfolding carried write_answer answers
 returns c =
-    written_message parts done table (answer_of c.args.answer) c.parts-of-parts.result.number
-    (body_of c.parts-of-parts.result.fields) (layout c.in-Some.shape) c.args.out.now c.write.new.out c.write.result
-    c.parts-of-parts.ensures c.in-Some.ensures c.write.ensures
+    written_message parts done table (answer_of c.args.answer) c.parts_of-parts.result.number
+    (body_of c.parts_of-parts.result.fields) (layout c.in-Some.shape) c.args.out.now c.write.new.out c.write.result
+    c.parts_of-parts.ensures c.in-Some.ensures c.write.ensures

@@ -18,4 +18,4 @@ never a t before after (TooShort n) e h w = omega (arith, (answers_brief a).1, a
 pub returns-in-Err : goal.returns-in-Err
 returns-in-Err c =
     absurd (never (answer_of c.answer-answer.result) _ c.args.told.now c.write.new.out c.in-Err.unwritten
-    c.told-to-system.ensures (omega arith) c.in-Err.ensures)
+    c.told_to_system.ensures (omega arith) c.in-Err.ensures)

@@ -12,13 +12,13 @@ returns-then-not-fits c =
     (sym c.if-not-fits.ensures) in
     record { answer = c.refused.ensures ∙ d.answer; memory = d.memory; pages = d.pages }
 
-pub returns-in-default-who-calls : goal.returns-in-default-who-calls
-returns-in-default-who-calls c =
+pub returns-in_default-who_calls : goal.returns-in_default-who_calls
+returns-in_default-who_calls c =
     let m = c.args.memory.now in
     let cs = c.args.closed.now in
     let os = c.args.open.now in
     let runs = ap is_some (sym c.running.ensures ∙ c.in-Some.is) in
-    let none = sym c.who_calls.ensures.value ∙ c.in-default-who-calls.is in
+    let none = sym c.who_calls.ensures.value ∙ c.in_default-who_calls.is in
     let d = sides c.args.call (λ q. fits q ≡ true → Does m cs os q (refused (record { number = 14; place = 0 })) m cs)
     (λ x f. system_waits m cs os _ f x refl runs) (λ x f. cell_waits m cs os _ f x refl none) (sym c.if-not-fits.ensures) in
-    record { answer = c.refused-in-default-who-calls.ensures ∙ d.answer; memory = d.memory; pages = d.pages }
+    record { answer = c.refused-in_default-who_calls.ensures ∙ d.answer; memory = d.memory; pages = d.pages }

@@ -6,17 +6,17 @@ use Rattle.lookups.proofs.has_parts.Goals as goal
 pub pages-init : goal.pages-init
 pages-init c = (none_yet c.args.memory.now c.args.cell, refl)
 
-pub pages-preserved-in-default : goal.pages-preserved-in-default
-pages-preserved-in-default c =
-    let part = sym (c.part-of.ensures ∙ ap part_of c.record-of.ensures) in (
+pub pages-preserved-in_default : goal.pages-preserved-in_default
+pages-preserved-in_default c =
+    let part = sym (c.part_of.ensures ∙ ap part_of c.record_of.ensures) in (
       none_here c.pages.page c.args.memory.now c.args.cell c.pages.invariant.0
-          (ap (λ o. is_part o c.args.cell) (part ∙ c.in-default.is)),
+          (ap (λ o. is_part o c.args.cell) (part ∙ c.in_default.is)),
       c.pages.invariant.1,
     )
 
 pub pages-preserved : goal.pages-preserved
 pages-preserved c =
-    let part = sym (c.part-of.ensures ∙ ap part_of c.record-of.ensures) in (
+    let part = sym (c.part_of.ensures ∙ ap part_of c.record_of.ensures) in (
       none_here c.pages.page c.args.memory.now c.args.cell c.pages.invariant.0
           (ap (λ o. is_part o c.args.cell) (part ∙ c.in-Some.is) ∙ ne_eqb _ _ c.if-owner-cell.false),
       c.pages.invariant.1,
@@ -24,6 +24,6 @@ pages-preserved c =
 
 pub returns-then-owner-cell : goal.returns-then-owner-cell
 returns-then-owner-cell c =
-    let part = sym (c.part-of.ensures ∙ ap part_of c.record-of.ensures) in
+    let part = sym (c.part_of.ensures ∙ ap part_of c.record_of.ensures) in
     sym (one_found _ c.pages.page c.args.memory.now c.args.cell (omega (arith, c.pages-page-end.ensures))
     (ap (λ o. is_part o c.args.cell) (part ∙ c.in-Some.is) ∙ eq-eqb _ _ c.if-owner-cell.true))

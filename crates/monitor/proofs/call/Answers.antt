@@ -20,7 +20,7 @@ never a t before after (TooShort n) e h w =
 
 pub returns-in-Err : goal.returns-in-Err
 returns-in-Err c = record {
-  reply = never _ _ c.args.told.now c.write.new.out c.in-Err.unwritten (c.told-to-system.ensures ∙ ap model.to_system
+  reply = never _ _ c.args.told.now c.write.new.out c.in-Err.unwritten (c.told_to_system.ensures ∙ ap model.to_system
       c.answer-answer.ensures)
       (omega arith) c.in-Err.ensures;
   «memory» = refl;

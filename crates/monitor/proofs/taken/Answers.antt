@@ -29,5 +29,5 @@ others m (Extend p i) h = refl
 others m Who h = refl
 others m (Draw n) h = refl
 
-pub returns-in-default : goal.returns-in-default
-returns-in-default c = c.refused.ensures ∙ others c.args.pages c.args.call c.in-default.not-HowMany
+pub returns-in_default : goal.returns-in_default
+returns-in_default c = c.refused.ensures ∙ others c.args.pages c.args.call c.in_default.not-HowMany

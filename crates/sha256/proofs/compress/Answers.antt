@@ -16,8 +16,8 @@ quarters block h =
 
 pub returns : goal.returns
 returns c =
-    c.compress-words.ensures
+    c.compress_words.ensures
     ∙ ap (compressed (state_of c.args.hash))
-    (ap₂ ◌++◌ c.quarter-words.ensures (ap₂ ◌++◌ c.quarter-words-2.ensures
-    (ap₂ ◌++◌ c.quarter-words-3.ensures c.quarter-words-4.ensures))
+    (ap₂ ◌++◌ c.quarter_words.ensures (ap₂ ◌++◌ c.quarter_words-2.ensures
+    (ap₂ ◌++◌ c.quarter_words-3.ensures c.quarter_words-4.ensures))
     ∙ quarters c.args.block.now c.requires)

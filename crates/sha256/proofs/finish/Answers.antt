@@ -11,8 +11,8 @@ pub returns : goal.returns
 unfolding name_words
 returns c =
     let value =
-    c.digest-words.ensures
+    c.digest_words.ensures
     ∙ ap (λ s. words_of (digest s))
-    (c.compress-blocks.ensures ∙ one_block (state_of c.args.hash) c.padding.result (omega arith)
+    (c.compress_blocks.ensures ∙ one_block (state_of c.args.hash) c.padding.result (omega arith)
     ∙ ap (compressed (state_of c.args.hash)) c.padding.ensures) in
     record { history = λ ws h. value ∙ named (record { hash = c.args.hash; blocks = c.args.blocks }) ws h; value = value }

@@ -16,6 +16,6 @@ returns c =
     let n = c.args.blocks in
     let bits = n * 512 % 2 ^ 64 in
     ap₂ (λ high low. 2147483648 ∷ replicate 13 0 ++ high ∷ low ∷ [])
-    (ap swapped c.swap-bytes.ensures ∙ swapped_twice (bits / 2 ^ 32) (omega arith) ∙ high_word n)
-    (ap swapped (c.swap-bytes-2.ensures ∙ ap swapped (and_mask bits 32))
+    (ap swapped c.swap_bytes.ensures ∙ swapped_twice (bits / 2 ^ 32) (omega arith) ∙ high_word n)
+    (ap swapped (c.swap_bytes-2.ensures ∙ ap swapped (and_mask bits 32))
     ∙ swapped_twice (bits % 2 ^ 32) (omega arith) ∙ low_word n)

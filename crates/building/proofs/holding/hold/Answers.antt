@@ -10,7 +10,7 @@ use Rattle.building.proofs.holding.hold.Goals as goal
 
 pub measured-measure-requires : goal.measured-measure-requires
 measured-measure-requires c =
-    let ok = c.in-ok-table.ensures.1 in
+    let ok = c.in_ok-table.ensures.1 in
     let there : HasWords c.fill.new.closed c.args.page = omega (arith, ok.2, c.fill.auto.closed) in (
       omega (arith, ok.3),
       (
@@ -28,7 +28,7 @@ returns c =
     let m : List ℕ = c.args.memory.now in
     let os : List ℕ = c.args.open.now in
     let ws : List ℕ = source_words os c.args.source in
-    let ok = c.in-ok-table.ensures in
+    let ok = c.in_ok-table.ensures in
     let long : length ws ≡ 1024 = length_source os c.args.source (source_fits m os c.args.source ok.1.4 (omega arith)) in
     let words = c.page_at.ensures ∙ ap (λ x. page_in x c.args.page) c.fill.ensures
     ∙ read_back c.args.closed.now c.args.page ws (omega arith) long in
@@ -36,9 +36,9 @@ returns c =
     record {
       «memory» = (
         ok.0,
-        c.put-measure.ensures
+        c.put_measure.ensures
             ∙ ap₂ (λ x k. numbers_put x c.args.cell 4 (measure_words k))
-            (c.become-held.ensures ∙ ap (λ q. made_held m c.args.page c.args.cell q (place_of c.args.place)) ok.1.0) measure,
+            (c.become_held.ensures ∙ ap (λ q. made_held m c.args.page c.args.cell q (place_of c.args.place)) ok.1.0) measure,
       );
       closed = (ok.0, c.fill.ensures);
     }

@@ -6,7 +6,7 @@ use Rattle.fields.proofs.numbers.lent_at.Goals as goal
 
 pub returns-then-index-bytes : goal.returns-then-index-bytes
 returns-then-index-bytes c =
-    ap Some c.number-at.ensures
+    ap Some c.number_at.ensures
     ∙ sym (number_of_numbers (length c.args.bytes.now / 8) c.args.index c.args.bytes.now c.if-index-bytes.true)
 
 pub returns-else-index-bytes : goal.returns-else-index-bytes

@@ -25,33 +25,33 @@ returns-in-0 c = sym (ap (four (drop c.args.at c.args.bytes.now)) c.in-0.is)
 pub returns-in-1 : goal.returns-in-1
 unfolding numbers_in four
 returns-in-1 c =
-    ap (λ (x : ℕ). x ∷ 0 ∷ 0 ∷ 0 ∷ []) c.number-at.ensures
+    ap (λ (x : ℕ). x ∷ 0 ∷ 0 ∷ 0 ∷ []) c.number_at.ensures
     ∙ sym (ap (four (drop c.args.at c.args.bytes.now)) c.in-1.is)
 
 pub returns-in-2 : goal.returns-in-2
 unfolding numbers_in four
 returns-in-2 c =
-    ap₂ (λ (x y : ℕ). x ∷ y ∷ 0 ∷ 0 ∷ []) c.number-at-in-2.ensures
-    (second c.args.bytes.now c.args.at _ c.number-at-in-2-2.ensures)
+    ap₂ (λ (x y : ℕ). x ∷ y ∷ 0 ∷ 0 ∷ []) c.number_at-in-2.ensures
+    (second c.args.bytes.now c.args.at _ c.number_at-in-2-2.ensures)
     ∙ sym (ap (four (drop c.args.at c.args.bytes.now)) c.in-2.is)
 
 pub returns-in-3 : goal.returns-in-3
 unfolding numbers_in four
 returns-in-3 c =
     let bs : List ℕ = c.args.bytes.now in
-    ap₂ (λ (x y : ℕ). x ∷ y ∷ c.number-at-in-3-3.result ∷ 0 ∷ []) c.number-at-in-3.ensures
-    (second bs c.args.at _ c.number-at-in-3-2.ensures)
+    ap₂ (λ (x y : ℕ). x ∷ y ∷ c.number_at-in-3-3.result ∷ 0 ∷ []) c.number_at-in-3.ensures
+    (second bs c.args.at _ c.number_at-in-3-2.ensures)
     ∙ ap (λ (x : ℕ). number_in (drop c.args.at bs) ∷ number_in (drop 8 (drop c.args.at bs)) ∷ x ∷ 0 ∷ [])
-    (third bs c.args.at _ c.number-at-in-3-3.ensures)
+    (third bs c.args.at _ c.number_at-in-3-3.ensures)
     ∙ sym (ap (four (drop c.args.at bs)) c.in-3.is)
 
-pub returns-in-default : goal.returns-in-default
+pub returns-in_default : goal.returns-in_default
 unfolding numbers_in four
-returns-in-default c =
+returns-in_default c =
     let bs : List ℕ = c.args.bytes.now in
     let all : c.args.count ≡ 4 = omega arith in
-    ap₂ (λ (x y : ℕ). x ∷ y ∷ c.number-at-in-default-3.result ∷ c.number-at-in-default-4.result ∷ []) c.number-at-in-default.ensures
-    (second bs c.args.at _ c.number-at-in-default-2.ensures)
+    ap₂ (λ (x y : ℕ). x ∷ y ∷ c.number_at-in_default-3.result ∷ c.number_at-in_default-4.result ∷ []) c.number_at-in_default.ensures
+    (second bs c.args.at _ c.number_at-in_default-2.ensures)
     ∙ ap₂ (λ (x y : ℕ). number_in (drop c.args.at bs) ∷ number_in (drop 8 (drop c.args.at bs)) ∷ x ∷ y ∷ [])
-    (third bs c.args.at _ c.number-at-in-default-3.ensures) (fourth bs c.args.at _ c.number-at-in-default-4.ensures)
+    (third bs c.args.at _ c.number_at-in_default-3.ensures) (fourth bs c.args.at _ c.number_at-in_default-4.ensures)
     ∙ sym (ap (four (drop c.args.at bs)) all)

@@ -5,16 +5,16 @@ pub returns-then-cursor-bytes : goal.returns-then-cursor-bytes
 returns-then-cursor-bytes c =
     closed_long _ _ c.args.bytes.now _
     (body_there
-    (record { numbers = c.in-ok-numbers.numbers; place = c.in-ok-place.place; list = c.in-ok-list.list })
+    (record { numbers = c.in_ok-numbers.numbers; place = c.in_ok-place.place; list = c.in_ok-list.list })
     c.args.shape (record { bytes = c.args.bytes; at = 0 }) c.numbers.new.self c.place_if.new.self c.list_if.new.self
-    c.in-ok-numbers.ensures c.in-ok-place.ensures c.in-ok-list.ensures)
+    c.in_ok-numbers.ensures c.in_ok-place.ensures c.in_ok-list.ensures)
     c.if-cursor-bytes.true
 
 pub returns : goal.returns
 returns c =
     closed_whole _ _ c.args.bytes.now _
     (body_there
-    (record { numbers = c.in-ok-numbers.numbers; place = c.in-ok-place.place; list = c.in-ok-list.list })
+    (record { numbers = c.in_ok-numbers.numbers; place = c.in_ok-place.place; list = c.in_ok-list.list })
     c.args.shape (record { bytes = c.args.bytes; at = 0 }) c.numbers.new.self c.place_if.new.self c.list_if.new.self
-    c.in-ok-numbers.ensures c.in-ok-place.ensures c.in-ok-list.ensures)
+    c.in_ok-numbers.ensures c.in_ok-place.ensures c.in_ok-list.ensures)
     c.if-cursor-bytes.false

@@ -7,7 +7,7 @@ returns c =
     let bs : List ℕ = c.args.bytes.now in
     let size : ℕ = 8 * (length bs / 8) in
     let z : size - 0 ≡ size = omega arith in
-    let copied : c.copy-from-slice.new.self ≡ take size bs = c.copy-from-slice.ensures.after ∙ ap (λ k. take k bs) z in
-    wrote_is _ _ (take size bs) _ _ _ (lent_bytes bs (λ i. omega (arith, c.type-inv.bytes i)))
-    (wrote_part c.args.out.now c.copy-from-slice.new.self (take size bs) c.args.at _ _ copied
+    let copied : c.copy_from_slice.new.self ≡ take size bs = c.copy_from_slice.ensures.after ∙ ap (λ k. take k bs) z in
+    wrote_is _ _ (take size bs) _ _ _ (lent_bytes bs (λ i. omega (arith, c.type_inv.bytes i)))
+    (wrote_part c.args.out.now c.copy_from_slice.new.self (take size bs) c.args.at _ _ copied
     (simp length-take (omega arith)) (simp length-take (omega arith)) (simp length-take (omega arith)))

@@ -15,34 +15,34 @@ list_of : (l k : Numbers) (a b c : List ℕ) (n at m e : ℕ) → l ≡ k → n 
 list_of l k a b c n at m e is count room v w =
     wrote_list a b c (numbers_of l) n at m e count room v (wrote_is b c _ _ m e (ap (λ x. numbers_bytes (numbers_of x)) is) w)
 
-pub put-lent-requires : goal.put-lent-requires
-put-lent-requires c =
+pub put_lent-requires : goal.put_lent-requires
+put_lent-requires c =
     let bs : List ℕ = c.in-Lent.bytes.now in
     let l : length (numbers_of c.args.list) ≡ length bs / 8 = ap (λ x. length (numbers_of x)) c.in-Lent.is
     ∙ length_numbers_in _ bs in
-    omega (arith, c.put-byte-end.ensures.ends, c.put-byte-end.ensures.long)
+    omega (arith, c.put_byte-end.ensures.ends, c.put_byte-end.ensures.long)
 
 pub returns-in-None : goal.returns-in-None
 unfolding numbers_bytes
-returns-in-None c = list_of c.args.list _ _ _ _ _ _ _ _ c.in-None.is c.len.ensures c.requires.0 c.put-byte-end.ensures
+returns-in-None c = list_of c.args.list _ _ _ _ _ _ _ _ c.in-None.is c.len.ensures c.requires.0 c.put_byte-end.ensures
     (wrote_none _ _)
 
 pub returns-in-One : goal.returns-in-One
 unfolding numbers_bytes
-returns-in-One c = list_of c.args.list _ _ _ _ _ _ _ _ c.in-One.is c.len.ensures c.requires.0 c.put-byte-end.ensures
-    c.put-number.ensures
+returns-in-One c = list_of c.args.list _ _ _ _ _ _ _ _ c.in-One.is c.len.ensures c.requires.0 c.put_byte-end.ensures
+    c.put_number.ensures
 
 pub returns-in-Name : goal.returns-in-Name
 unfolding numbers_bytes
-returns-in-Name c = list_of c.args.list _ _ _ _ _ _ _ _ c.in-Name.is c.len.ensures c.requires.0 c.put-byte-end.ensures
-    c.put-words.ensures
+returns-in-Name c = list_of c.args.list _ _ _ _ _ _ _ _ c.in-Name.is c.len.ensures c.requires.0 c.put_byte-end.ensures
+    c.put_words.ensures
 
 pub returns-in-Registers : goal.returns-in-Registers
 unfolding numbers_bytes
 returns-in-Registers c = list_of c.args.list _ _ _ _ _ _ _ _ c.in-Registers.is c.len.ensures c.requires.0
-    c.put-byte-end.ensures c.put-words-in-Registers.ensures
+    c.put_byte-end.ensures c.put_words-in-Registers.ensures
 
 pub returns-in-Lent : goal.returns-in-Lent
 unfolding numbers_bytes
-returns-in-Lent c = list_of c.args.list _ _ _ _ _ _ _ _ c.in-Lent.is c.len.ensures c.requires.0 c.put-byte-end.ensures
-    c.put-lent.ensures
+returns-in-Lent c = list_of c.args.list _ _ _ _ _ _ _ _ c.in-Lent.is c.len.ensures c.requires.0 c.put_byte-end.ensures
+    c.put_lent.ensures

@@ -8,8 +8,8 @@ pub loop-number-init : goal.loop-number-init
 unfolding numbers_bytes
 loop-number-init c = wrote_none c.args.out.now c.args.at
 
-pub put-number-end-requires : goal.put-number-end-requires
-put-number-end-requires c =
+pub put_number-end-requires : goal.put_number-end-requires
+put_number-end-requires c =
     room_next c.args.out.now c.loop-number.out c.args.numbers.now c.args.at _ c.loop-number.number-index
     (omega arith) (omega arith)
     c.loop-number.invariant
@@ -18,7 +18,7 @@ pub loop-number-preserved : goal.loop-number-preserved
 loop-number-preserved c =
     wrote_next c.args.out.now c.loop-number.out _ c.args.numbers.now c.args.at _ _ c.loop-number.number-index
     (omega arith) (omega arith)
-    c.loop-number.invariant c.put-number-end.ensures
+    c.loop-number.invariant c.put_number-end.ensures
 
 pub returns : goal.returns
 returns c =

@@ -8,8 +8,8 @@ pub loop-word-init : goal.loop-word-init
 unfolding numbers_bytes
 loop-word-init c = wrote_none c.args.out.now c.args.at
 
-pub put-number-end-requires : goal.put-number-end-requires
-put-number-end-requires c =
+pub put_number-end-requires : goal.put_number-end-requires
+put_number-end-requires c =
     room_next c.args.out.now c.loop-word.out c.args.words.now c.args.at _ c.loop-word.word-index (omega arith)
     (omega arith)
     c.loop-word.invariant
@@ -18,7 +18,7 @@ pub loop-word-preserved : goal.loop-word-preserved
 loop-word-preserved c =
     wrote_next c.args.out.now c.loop-word.out _ c.args.words.now c.args.at _ _ c.loop-word.word-index
     (omega arith) (omega arith)
-    c.loop-word.invariant c.put-number-end.ensures
+    c.loop-word.invariant c.put_number-end.ensures
 
 pub returns : goal.returns
 returns c =

@@ -59,9 +59,9 @@ returns-in-Draw c =
     cell_does c.args.memory.now c.args.closed.now c.args.open.now (call_of c.args.call) c.requires.fits c.args.caller
     (draw c.in-Draw.number) (ap call_of c.in-Draw.is) c.requires.calls _ _ _ refl refl refl
 
-pub returns-in-default : goal.returns-in-default
-returns-in-default c =
-    let r = c.in-default in
+pub returns-in_default : goal.returns-in_default
+returns-in_default c =
+    let r = c.in_default in
     let system = a_systems c.args.call r.not-Leave r.not-Interrupt r.not-Fault r.not-Grow r.not-Shrink r.not-Extend
     r.not-Who r.not-Draw in
     let waits = system_waits c.args.memory.now c.args.closed.now c.args.open.now (call_of c.args.call) c.requires.fits

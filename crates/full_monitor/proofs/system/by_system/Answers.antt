@@ -86,9 +86,9 @@ returns-in-Resume c =
     (resume c.in-Resume.thread) (ap call_of c.in-Resume.is) c.requires.idle
     _ _ c.resume.result _ _ c.entered-in-Resume.ensures c.resume.ensures refl refl refl
 
-pub returns-in-default : goal.returns-in-default
-returns-in-default c =
-    let r = c.in-default in
+pub returns-in_default : goal.returns-in_default
+returns-in_default c =
+    let r = c.in_default in
     let cell = a_cells c.args.call r.not-HowMany r.not-NewCell r.not-NewThread r.not-NewTable r.not-Hold r.not-Give
     r.not-Show r.not-Remove r.not-Seal r.not-Stop r.not-Enter r.not-Resume in
     let waits = cell_waits c.args.memory.now c.args.closed.now c.args.open.now (call_of c.args.call) c.requires.fits

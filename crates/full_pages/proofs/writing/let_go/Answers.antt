@@ -10,5 +10,5 @@ returns c =
     let m : List ℕ = c.args.memory.now in
     let start : ℕ = 256 + c.args.page * 2048 in
     part_zeros start c.used-count.result m c.fill.new.self
-    (omega (arith, c.used-count.ensures, used_few c.record-at.result)) (c.fill.ensures.after (λ y h. h))
-    ∙ ap₂ (λ i n. list_put m i (replicate n 0)) (sym (add-zero start)) (c.used-count.ensures ∙ ap used c.record-at.ensures)
+    (omega (arith, c.used-count.ensures, used_few c.record_at.result)) (c.fill.ensures.after (λ y h. h))
+    ∙ ap₂ (λ i n. list_put m i (replicate n 0)) (sym (add-zero start)) (c.used-count.ensures ∙ ap used c.record_at.ensures)

@@ -25,7 +25,7 @@ loop-done-preserved c =
     let after : Words = record { closed_pages = c.step-stepped.new.closed; open_pages = c.step-stepped.new.open } in
     let inv = c.loop-done.invariant in (
       inv.0 ∙ went_on c.args.memory.now c.args.top c.args.steps c.loop-done.done c.args.chance (omega arith)
-          c.loop-done.registers.words now after c.step-stepped.result c.step-stepped.ensures c.in-default.is,
+          c.loop-done.registers.words now after c.step-stepped.result c.step-stepped.ensures c.in_default.is,
       c.step-stepped.auto.closed ∙ inv.1,
       c.step-stepped.auto.open ∙ inv.2,
     )

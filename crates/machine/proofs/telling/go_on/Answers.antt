@@ -9,12 +9,12 @@ use Rattle.machine.proofs.telling.go_on.Goals as goal
 pub loop-i-init : goal.loop-i-init
 loop-i-init c = refl
 
-pub returns-in-default : goal.returns-in-default
+pub returns-in_default : goal.returns-in_default
 unfolding told_on
-returns-in-default c =
+returns-in_default c =
     let ns : List ℕ = numbers_of c.args.numbers in
     let first = c.put-registers.ensures ∙ ap (with_register c.args.registers.words 0) (and_mask c.args.error 32) in
-    sym (c.loop-i.invariant ∙ told_none ns c.loop-i.registers.words c.loop-i.i (sym c.at.ensures ∙ c.in-default.is))
+    sym (c.loop-i.invariant ∙ told_none ns c.loop-i.registers.words c.loop-i.i (sym c.at.ensures ∙ c.in_default.is))
     ∙ ap (told_on 1 (take 8 ns)) first
 
 pub loop-i-preserved : goal.loop-i-preserved

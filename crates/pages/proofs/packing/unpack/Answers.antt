@@ -13,5 +13,5 @@ returns-in-1 c =
     let x = and_mask (c.args.number / 8) 1 in
     grind (arith, nat_tests)
 
-pub returns-in-default : goal.returns-in-default
-returns-in-default c = let m = and_mask c.args.number 2 in let w = and_mask (c.args.number / 4) 1 in grind (arith, nat_tests)
+pub returns-in_default : goal.returns-in_default
+returns-in_default c = let m = and_mask c.args.number 2 in let w = and_mask (c.args.number / 4) 1 in grind (arith, nat_tests)

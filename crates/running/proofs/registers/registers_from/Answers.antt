@@ -10,8 +10,8 @@ pub loop-i-init : goal.loop-i-init
 unfolding all_words
 loop-i-init c = (refl, refl, refl)
 
-pub returns-in-default : goal.returns-in-default
-returns-in-default c = absurd (none_read (numbers_of c.args.numbers) c.loop-i.i (omega arith) (sym c.at.ensures ∙ c.in-default.is))
+pub returns-in_default : goal.returns-in_default
+returns-in_default c = absurd (none_read (numbers_of c.args.numbers) c.loop-i.i (omega arith) (sym c.at.ensures ∙ c.in_default.is))
 
 pub returns-then-number-ge4294967296 : goal.returns-then-number-ge4294967296
 returns-then-number-ge4294967296 c =

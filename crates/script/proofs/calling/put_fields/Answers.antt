@@ -4,18 +4,18 @@ use Rattle.script.specs.Lines.{call_with}
 use Rattle.script.proofs.Standing.{put_fields, put_fails}
 use Rattle.script.proofs.calling.put_fields.Goals as goal
 
-pub call-from-requires : goal.call-from-requires
-call-from-requires c = c.requires.0.known
+pub call_from-requires : goal.call_from-requires
+call_from-requires c = c.requires.0.known
 
 pub unreachable-requires : goal.unreachable-requires
 unfolding call_with
 unreachable-requires c =
-    put_fails (call_of c.call-from.result) c.args.number (body_of c.args.fields) c.args.bytes.now c.write.new.out
+    put_fails (call_of c.call_from.result) c.args.number (body_of c.args.fields) c.args.bytes.now c.write.new.out
     c.in-Err.field-0
-    c.call-from.ensures c.requires.0 c.requires.1 c.in-Err.ensures
+    c.call_from.ensures c.requires.0 c.requires.1 c.in-Err.ensures
 
 pub returns : goal.returns
 unfolding call_with
 returns c =
-    put_fields (call_of c.call-from.result) _ c.in-Ok.length c.args.bytes.now c.write.new.out c.call-from.ensures
+    put_fields (call_of c.call_from.result) _ c.in-Ok.length c.args.bytes.now c.write.new.out c.call_from.ensures
     c.in-Ok.ensures

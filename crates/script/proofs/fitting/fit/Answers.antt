@@ -2,9 +2,9 @@ use Rattle.std.proofs.Common.{rules}
 use Rattle.script.specs.Fitting.{fit}
 use Rattle.script.proofs.fitting.fit.Goals as goal
 
-pub returns-in-default-take : goal.returns-in-default-take
+pub returns-in_default-take : goal.returns-in_default-take
 unfolding fit
-returns-in-default-take c = search rules
+returns-in_default-take c = search rules
 
 pub loop-sign-preserved : goal.loop-sign-preserved
 unfolding fit

@@ -2,29 +2,29 @@ use Rattle.std.proofs.Common.{rules}
 use Rattle.script.specs.Fitting.{take_word}
 use Rattle.script.proofs.fitting.take.Goals as goal
 
-pub returns-in-default : goal.returns-in-default
+pub returns-in_default : goal.returns-in_default
 unfolding take_word
-returns-in-default c = search rules
+returns-in_default c = search rules
 
-pub returns-in-Some-with-number : goal.returns-in-Some-with-number
+pub returns-in-Some-with_number : goal.returns-in-Some-with_number
 unfolding take_word
-returns-in-Some-with-number c = search rules
+returns-in-Some-with_number c = search rules
 
 pub returns-in-None : goal.returns-in-None
 unfolding take_word
 returns-in-None c = search rules
 
-pub returns-in-default-take-place : goal.returns-in-default-take-place
+pub returns-in_default-take_place : goal.returns-in_default-take_place
 unfolding take_word
-returns-in-default-take-place c = search rules
+returns-in_default-take_place c = search rules
 
 pub returns-then-same-2 : goal.returns-then-same-2
 unfolding take_word
 returns-then-same-2 c = search rules
 
-pub returns-in-default-next : goal.returns-in-default-next
+pub returns-in_default-next : goal.returns-in_default-next
 unfolding take_word
-returns-in-default-next c = search rules
+returns-in_default-next c = search rules
 
 pub returns-then-same-3 : goal.returns-then-same-3
 unfolding take_word

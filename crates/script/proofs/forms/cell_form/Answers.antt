@@ -24,5 +24,5 @@ returns-in-18 c = c.call-in-18.ensures ∙ ap (slice_get forms) (sym c.in-18.is)
 pub returns-in-19 : goal.returns-in-19
 returns-in-19 c = c.call-in-19.ensures ∙ ap (slice_get forms) (sym c.in-19.is)
 
-pub returns-in-default : goal.returns-in-default
-returns-in-default c = let e : c.args.index ≡ 20 = omega arith in c.call-in-default.ensures ∙ ap (slice_get forms) (sym e)
+pub returns-in_default : goal.returns-in_default
+returns-in_default c = let e : c.args.index ≡ 20 = omega arith in c.call-in_default.ensures ∙ ap (slice_get forms) (sym e)

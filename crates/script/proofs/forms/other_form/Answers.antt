@@ -19,5 +19,5 @@ returns-in-24 c = ap (slice_get forms) (sym c.in-24.is)
 pub returns-in-25 : goal.returns-in-25
 returns-in-25 c = ap (slice_get forms) (sym c.in-25.is)
 
-pub returns-in-default : goal.returns-in-default
-returns-in-default c = sym (slice_get_past forms c.args.index (omega arith))
+pub returns-in_default : goal.returns-in_default
+returns-in_default c = sym (slice_get_past forms c.args.index (omega arith))

@@ -39,5 +39,5 @@ returns-in-10 c = c.call-in-10.ensures ∙ ap (slice_get forms) (sym c.in-10.is)
 pub returns-in-11 : goal.returns-in-11
 returns-in-11 c = c.call-in-11.ensures ∙ ap (slice_get forms) (sym c.in-11.is)
 
-pub returns-in-default : goal.returns-in-default
-returns-in-default c = let e : c.args.index ≡ 12 = omega arith in c.call-in-default.ensures ∙ ap (slice_get forms) (sym e)
+pub returns-in_default : goal.returns-in_default
+returns-in_default c = let e : c.args.index ≡ 12 = omega arith in c.call-in_default.ensures ∙ ap (slice_get forms) (sym e)

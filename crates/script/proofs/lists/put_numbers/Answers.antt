@@ -21,5 +21,5 @@ loop-cut-preserved c = (
   omega arith,
   numbers_step c.args.bytes.now c.loop-cut.bytes _ c.loop-cut.invariant.0 c.in-Some-number.number c.loop-cut.count
       (omega arith) (omega arith)
-      c.requires c.loop-cut.invariant.4 c.put-number.ensures,
+      c.requires c.loop-cut.invariant.4 c.put_number.ensures,
 )

@@ -8,17 +8,17 @@ use Rattle.script.proofs.Standing.{forms_sound}
 use Rattle.script.proofs.Trying.{nth_within, all_nth, none_left, left_more, first_here, line_by_forms, line_skipped, said_of_line}
 use Rattle.script.proofs.reading.read.Goals as goal
 
-pub returns-then-is-skipped : goal.returns-then-is-skipped
-returns-then-is-skipped c = record { said = line_skipped c.args.text.now (sym c.if-is-skipped.ensures); back = tt }
+pub returns-then-is_skipped : goal.returns-then-is_skipped
+returns-then-is_skipped c = record { said = line_skipped c.args.text.now (sym c.if-is_skipped.ensures); back = tt }
 
-pub read-as-requires : goal.read-as-requires
-read-as-requires c = (
+pub read_as-requires : goal.read_as-requires
+read_as-requires c = (
   all_nth (λ f. Sound f.kind) forms c.loop-form.index (form_of c.in-Some.form) forms_sound (sym c.in-Some.ensures),
   (omega arith, omega arith),
 )
 
-pub overflow-add-index : goal.overflow-add-index
-overflow-add-index c = let h = nth_within forms c.loop-form.index (form_of c.in-Some.form) (sym c.in-Some.ensures) in omega arith
+pub overflow_add-index : goal.overflow_add-index
+overflow_add-index c = let h = nth_within forms c.loop-form.index (form_of c.in-Some.form) (sym c.in-Some.ensures) in omega arith
 
 pub loop-form-smaller : goal.loop-form-smaller
 loop-form-smaller c = let h = nth_within forms c.loop-form.index (form_of c.in-Some.form) (sym c.in-Some.ensures) in omega arith
@@ -29,20 +29,20 @@ loop-form-preserved c =
     (sym c.in-Some.ensures)
     c.in-Unreadable.ensures
 
-pub returns-in-default-read-as : goal.returns-in-default-read-as
-returns-in-default-read-as c =
-    let told = said_of_line _ (line_of c.args.text.now) c.read-as.result _ _ c.in-default-read-as.not-Unreadable
+pub returns-in_default-read_as : goal.returns-in_default-read_as
+returns-in_default-read_as c =
+    let told = said_of_line _ (line_of c.args.text.now) c.read_as.result _ _ c.in_default-read_as.not-Unreadable
     (λ l e.
-    line_by_forms c.args.text.now (sym c.if-is-skipped.ensures)
+    line_by_forms c.args.text.now (sym c.if-is_skipped.ensures)
     ∙ first_here (words c.args.text.now) c.loop-form.index c.loop-form.invariant (form_of c.in-Some.form)
     (sym c.in-Some.ensures) l e)
-    c.read-as.ensures in
-    record { said = told; back = said_back c.args.text.now c.read-as.result _ _ told }
+    c.read_as.ensures in
+    record { said = told; back = said_back c.args.text.now c.read_as.result _ _ told }
 
 pub returns : goal.returns
 returns c = record {
   said =
-      line_by_forms c.args.text.now (sym c.if-is-skipped.ensures)
-      ∙ none_left (words c.args.text.now) c.loop-form.index c.loop-form.invariant (sym c.in-default.ensures);
+      line_by_forms c.args.text.now (sym c.if-is_skipped.ensures)
+      ∙ none_left (words c.args.text.now) c.loop-form.index c.loop-form.invariant (sym c.in_default.ensures);
   back = tt;
 }

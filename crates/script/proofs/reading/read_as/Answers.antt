@@ -5,8 +5,8 @@ use Rattle.std.proofs.Common.{[], refl}
 use Rattle.script.proofs.Trying.{as_none, as_kind}
 use Rattle.script.proofs.reading.read_as.Goals as goal
 
-pub returns-in-default : goal.returns-in-default
-returns-in-default c = as_none (form_of c.args.form) (words c.args.text.now) c.in-default.ensures
+pub returns-in_default : goal.returns-in_default
+returns-in_default c = as_none (form_of c.args.form) (words c.args.text.now) c.in_default.ensures
 
 pub call-requires : goal.call-requires
 call-requires c = ((rw c.in-Call.is at c.requires.0) (taken_body c.in-Some.taken []) refl, c.requires.1.0)
@@ -21,7 +21,7 @@ pub returns-in-HoldFrom : goal.returns-in-HoldFrom
 returns-in-HoldFrom c =
     as_kind (form_of c.args.form) (words c.args.text.now) c.in-Some.taken (words c.in-Some.rest.now) _ _ _ _
     c.in-Some.ensures
-    c.in-HoldFrom.is (c.hold-from.ensures _)
+    c.in-HoldFrom.is (c.hold_from.ensures _)
 
 pub returns-in-Interrupt : goal.returns-in-Interrupt
 returns-in-Interrupt c =

@@ -6,8 +6,8 @@ use Rattle.script.proofs.showing.show_with.Goals as goal
 
 pub returns : goal.returns
 returns c =
-    printed_is c.show-numbers.result _ _ _ _ (with_some (numbers_of c.args.numbers)
+    printed_is c.show_numbers.result _ _ _ _ (with_some (numbers_of c.args.numbers)
     (λ e. c.if-len-eq0.false (c.len.ensures ∙ sym e)))
-    (printed_then c.show-numbers.result _ _ _ (codes " with") (spaced (numbers_of c.args.numbers))
-    c.in-ok-write.ensures.bytes
-    c.show-numbers.ensures)
+    (printed_then c.show_numbers.result _ _ _ (codes " with") (spaced (numbers_of c.args.numbers))
+    c.in_ok-write.ensures.bytes
+    c.show_numbers.ensures)

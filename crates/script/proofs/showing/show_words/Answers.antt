@@ -8,7 +8,7 @@ pub loop-word-preserved : goal.loop-word-preserved
 loop-word-preserved c =
     printed_more (string_bytes c.args.out.now) (string_bytes c.loop-word.out) _ c.args.words.now c.loop-word.word-index
     (omega arith)
-    c.loop-word.invariant c.in-ok-write.ensures.bytes
+    c.loop-word.invariant c.in_ok-write.ensures.bytes
 
 pub returns : goal.returns
 returns c =

@@ -5,4 +5,4 @@ use Rattle.sha256.proofs.functions.small_sigma0.Goals as goal
 pub returns : goal.returns
 returns c =
     let h : length c.args.x ≡ 4 = omega arith in
-    rw (c.rotate-right.ensures, c.rotate-right-2.ensures, four c.args.x h)
+    rw (c.rotate_right.ensures, c.rotate_right-2.ensures, four c.args.x h)

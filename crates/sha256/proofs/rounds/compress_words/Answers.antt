@@ -18,7 +18,7 @@ four_of xs i =
 pub loop-i-preserved : goal.loop-i-preserved
 loop-i-preserved c =
     let i = c.loop-i.i in
-    sym (c.four-rounds-work.ensures (drop (4 * (i + 1)) constants))
+    sym (c.four_rounds-work.ensures (drop (4 * (i + 1)) constants))
     ∙ ap (outcome c.loop-i.work) (four_of constants i) ∙ c.loop-i.invariant
 
 pub returns : goal.returns

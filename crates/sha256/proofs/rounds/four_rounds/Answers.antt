@@ -17,11 +17,11 @@ returns c ks =
     let h8 : length w.w8 ≡ 4 = grind arith in
     let h12 : length w.w12 ≡ 4 = grind arith in
     let x = zip2 ◌⊞◌ k w.w0 in
-    let rounded : state_of c.one-round-hash-4.result ≡ stepped s x =
-    c.one-round-hash-4.ensures
-    ∙ ap (λ s. round s (get_or x 3 0)) (c.one-round-hash-3.ensures
-    ∙ ap (λ s. round s (get_or x 2 0)) (c.one-round-hash-2.ensures
-    ∙ ap (λ s. round s (get_or x 1 0)) c.one-round-hash.ensures)) in
+    let rounded : state_of c.one_round-hash-4.result ≡ stepped s x =
+    c.one_round-hash-4.ensures
+    ∙ ap (λ s. round s (get_or x 3 0)) (c.one_round-hash-3.ensures
+    ∙ ap (λ s. round s (get_or x 2 0)) (c.one_round-hash-2.ensures
+    ∙ ap (λ s. round s (get_or x 1 0)) c.one_round-hash.ensures)) in
     four_rounds s k ks w.w0 w.w4 w.w8 w.w12 hk h0 h4 h8 h12
     ∙ ap₂ (λ s v. rolled s ks (w.w4 ++ (w.w8 ++ (w.w12 ++ v))))
-    (rounds_stepped s k w.w0 hk h0 ∙ sym rounded) (sym c.next-words.ensures)
+    (rounds_stepped s k w.w0 hk h0 ∙ sym rounded) (sym c.next_words.ensures)

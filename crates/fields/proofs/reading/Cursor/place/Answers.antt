@@ -22,9 +22,9 @@ returns c =
     let at : ℕ = c.args.self.now.at in
     let bs : List ℕ = c.args.self.now.bytes.now in
     let b : get_or (drop at bs) 16 0 ≡ get_or bs (at + 16) 0 = get_or-drop at bs 16 0 in
-    let t : number_in (drop at bs) ≡ c.number-at-table.result = sym c.number-at-table.ensures in
-    let s : number_in (drop 8 (drop at bs)) ≡ c.number-at-slot.result = ap number_in (drop-drop 8 at bs)
-    ∙ sym c.number-at-slot.ensures in (
+    let t : number_in (drop at bs) ≡ c.number_at-table.result = sym c.number_at-table.ensures in
+    let s : number_in (drop 8 (drop at bs)) ≡ c.number_at-slot.result = ap number_in (drop-drop 8 at bs)
+    ∙ sym c.number_at-slot.ensures in (
       refl,
       place_there (drop at bs) (simp length-drop (omega arith)) (omega arith) ∙ rw (b, t, s, drop-drop 17 at bs) refl,
       omega arith,

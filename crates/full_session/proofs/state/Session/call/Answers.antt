@@ -9,7 +9,7 @@ use Rattle.full_session.proofs.state.Session.call.Goals as goal
 pub call-requires : goal.call-requires
 call-requires c =
     let s = c.args.self.now in
-    rw (c.as-mut-slice.ensures.value, c.as-mut-slice-2.ensures.value, c.as-slice.ensures.value)
+    rw (c.as_mut_slice.ensures.value, c.as_mut_slice-2.ensures.value, c.as_slice.ensures.value)
     (lent (vec_items s.memory) (vec_items s.closed) (vec_items s.open) s.made)
 
 pub invariant-of-self : goal.invariant-of-self
@@ -17,10 +17,10 @@ invariant-of-self c =
     let s = c.args.self.now in
     let q = read_call c.args.bytes.now in
     let refines = moved (vec_items s.memory) _ (vec_items s.closed) _ (vec_items s.open) _ c.call.new.memory _
-    c.call.new.closed _ c.args.told.now c.call.new.told q c.call.result c.as-mut-slice.ensures.value
-    c.as-mut-slice-2.ensures.value c.as-slice.ensures.value
-    (sym (refilled_with s.memory c.call.new.memory _ c.call.auto.memory c.as-mut-slice.ensures.value))
-    (sym (refilled_with s.closed c.call.new.closed _ c.call.auto.closed c.as-mut-slice-2.ensures.value))
+    c.call.new.closed _ c.args.told.now c.call.new.told q c.call.result c.as_mut_slice.ensures.value
+    c.as_mut_slice-2.ensures.value c.as_slice.ensures.value
+    (sym (refilled_with s.memory c.call.new.memory _ c.call.auto.memory c.as_mut_slice.ensures.value))
+    (sym (refilled_with s.closed c.call.new.closed _ c.call.auto.closed c.as_mut_slice-2.ensures.value))
     c.call.ensures.refines in (
       ∥∥₁_map s.made (λ x. (
         x.0,
@@ -36,10 +36,10 @@ returns c =
     let s = c.args.self.now in
     let q = read_call c.args.bytes.now in
     let refines = moved (vec_items s.memory) _ (vec_items s.closed) _ (vec_items s.open) _ c.call.new.memory _
-    c.call.new.closed _ c.args.told.now c.call.new.told q c.call.result c.as-mut-slice.ensures.value
-    c.as-mut-slice-2.ensures.value c.as-slice.ensures.value
-    (sym (refilled_with s.memory c.call.new.memory _ c.call.auto.memory c.as-mut-slice.ensures.value))
-    (sym (refilled_with s.closed c.call.new.closed _ c.call.auto.closed c.as-mut-slice-2.ensures.value))
+    c.call.new.closed _ c.args.told.now c.call.new.told q c.call.result c.as_mut_slice.ensures.value
+    c.as_mut_slice-2.ensures.value c.as_slice.ensures.value
+    (sym (refilled_with s.memory c.call.new.memory _ c.call.auto.memory c.as_mut_slice.ensures.value))
+    (sym (refilled_with s.closed c.call.new.closed _ c.call.auto.closed c.as_mut_slice-2.ensures.value))
     c.call.ensures.refines in
     record {
       refines = refines;

@@ -12,16 +12,16 @@ pub invariant-of-self : goal.invariant-of-self
 invariant-of-self c =
     let s = c.args.self.now in
     let ws = c.args.words.now in
-    let done = c.write.ensures.done ∙ ap (λ xs. page_fits xs c.args.page ws) c.as-mut-slice.ensures.value in
-    let after = refilled_with s.closed c.write.new.all _ c.write.auto.all c.as-mut-slice.ensures.value
+    let done = c.write.ensures.done ∙ ap (λ xs. page_fits xs c.args.page ws) c.as_mut_slice.ensures.value in
+    let after = refilled_with s.closed c.write.new.all _ c.write.auto.all c.as_mut_slice.ensures.value
     ∙ c.write.ensures.after
-    ∙ ap (λ xs. cond c.write.result (page_put xs c.args.page (whole_page ws)) xs) c.as-mut-slice.ensures.value in (
+    ∙ ap (λ xs. cond c.write.result (page_put xs c.args.page (whole_page ws)) xs) c.as_mut_slice.ensures.value in (
       ∥∥₁_map s.made (λ x. (
         x.0,
         cond c.write.result (wrote c.args.page (whole_page ws) ∷ x.1) x.1,
         closed_if x.0 x.1
             (vec_items s.memory) (vec_items s.closed) (vec_items s.open) x.2 c.args.page ws
-            (all_from ws (λ i. omega (arith, c.type-inv.words i))) c.write.result _ done after,
+            (all_from ws (λ i. omega (arith, c.type_inv.words i))) c.write.result _ done after,
       )),
       tt,
     )
@@ -30,14 +30,14 @@ pub returns : goal.returns
 returns c =
     let s = c.args.self.now in
     let ws = c.args.words.now in
-    let done = c.write.ensures.done ∙ ap (λ xs. page_fits xs c.args.page ws) c.as-mut-slice.ensures.value in
-    let after = refilled_with s.closed c.write.new.all _ c.write.auto.all c.as-mut-slice.ensures.value
+    let done = c.write.ensures.done ∙ ap (λ xs. page_fits xs c.args.page ws) c.as_mut_slice.ensures.value in
+    let after = refilled_with s.closed c.write.new.all _ c.write.auto.all c.as_mut_slice.ensures.value
     ∙ c.write.ensures.after
-    ∙ ap (λ xs. cond c.write.result (page_put xs c.args.page (whole_page ws)) xs) c.as-mut-slice.ensures.value in
+    ∙ ap (λ xs. cond c.write.result (page_put xs c.args.page (whole_page ws)) xs) c.as_mut_slice.ensures.value in
     record {
       done = done;
       after = after;
       others = (refl, refl);
       events = λ l es w. closed_if l es (vec_items s.memory) (vec_items s.closed) (vec_items s.open) w c.args.page ws
-          (all_from ws (λ i. omega (arith, c.type-inv.words i))) c.write.result _ done after;
+          (all_from ws (λ i. omega (arith, c.type_inv.words i))) c.write.result _ done after;
     }

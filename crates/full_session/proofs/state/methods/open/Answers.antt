@@ -12,22 +12,22 @@ invariant-of-result c =
         limits_of p o,
         [],
         rw (
-          refilled_with c.in-Ok.memory c.open.new.memory _ c.open.auto.memory c.as-mut-slice.ensures.value
+          refilled_with c.in-Ok.memory c.open.new.memory _ c.open.auto.memory c.as_mut_slice.ensures.value
               ∙ c.in-Ok-open.ensures.1,
-          c.in-Ok-from-elem.ensures.exact (λ y h. h),
-          c.in-Ok-from-elem-2.ensures.exact (λ y h. h),
-        ) (opened_made p o (sym c.if-not-in-range.ensures)),
+          c.in-Ok-from_elem.ensures.exact (λ y h. h),
+          c.in-Ok-from_elem-2.ensures.exact (λ y h. h),
+        ) (opened_made p o (sym c.if-not-in_range.ensures)),
       ) ∣₁,
       tt,
     )
 
 pub returns-in-Ok-open : goal.returns-in-Ok-open
 returns-in-Ok-open c = (
-  sym c.if-not-in-range.ensures,
+  sym c.if-not-in_range.ensures,
   rw (
-    refilled_with c.in-Ok.memory c.open.new.memory _ c.open.auto.memory c.as-mut-slice.ensures.value
+    refilled_with c.in-Ok.memory c.open.new.memory _ c.open.auto.memory c.as_mut_slice.ensures.value
         ∙ c.in-Ok-open.ensures.1,
-    c.in-Ok-from-elem.ensures.exact (λ y h. h),
-    c.in-Ok-from-elem-2.ensures.exact (λ y h. h),
-  ) (opened_made c.args.limits.closed c.args.limits.open (sym c.if-not-in-range.ensures)),
+    c.in-Ok-from_elem.ensures.exact (λ y h. h),
+    c.in-Ok-from_elem-2.ensures.exact (λ y h. h),
+  ) (opened_made c.args.limits.closed c.args.limits.open (sym c.if-not-in_range.ensures)),
 )

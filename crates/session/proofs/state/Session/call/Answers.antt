@@ -4,10 +4,10 @@ use Rattle.session.proofs.state.Session.call.Goals as goal
 
 pub returns : goal.returns
 returns c = record {
-  reply = rw c.as-mut-slice.ensures.value at c.call.ensures.reply;
+  reply = rw c.as_mut_slice.ensures.value at c.call.ensures.reply;
   «memory» = refilled_same c.args.self.now.memory c.call.new.memory _ c.call.ensures.memory
-      c.as-mut-slice.ensures.value;
+      c.as_mut_slice.ensures.value;
   closed = refilled_same c.args.self.now.closed c.call.new.closed _ c.call.ensures.closed
-      c.as-mut-slice-2.ensures.value;
+      c.as_mut_slice-2.ensures.value;
   opens = refl;
 }
