@@ -14,7 +14,7 @@ returns-in-Cell c =
     ∙ record_begun m p c.args.new c.requires in
     c.put_measure.ensures ∙ ap (λ x. numbers_put x p 4 (measure_words c.new.result)) b
     ∙ cell_made m p c.in-Cell.top c.in-Cell.phase c.args.new (measure_words c.new.result) c.requires c.in-Cell.is
-    (measure_is c.new.result [] c.new.ensures)
+    (measure_is c.new.result [] c.new.ensures.history)
 
 pub returns-in_default : goal.returns-in_default
 returns-in_default c =
