@@ -76,8 +76,8 @@ meant (Call n) t ws = alone (call (call_with n (taken_body t []))) ws
 meant HoldFrom t ws = alone (call (call_with 4 (taken_body t (nth_number t 2 ∷ [])))) ws
 meant Interrupt t ws = option_map (λ ns. call (model.by_cell (model.interrupt ns))) (registers ws)
 meant Limits t ws = alone (limits (nth_number t 0) (nth_number t 1)) ws
-meant (Write open-page) t ws = option_map (λ ns. write open-page (nth_number t 0) ns) (page_words ws)
-meant (Print open-page) t ws = alone (print open-page (nth_number t 0)) ws
+meant (Write open_page) t ws = option_map (λ ns. write open_page (nth_number t 0) ns) (page_words ws)
+meant (Print open_page) t ws = alone (print open_page (nth_number t 0)) ws
 
 -- a line as one form has it
 unfoldable pub as_form : Form → List (List ℕ) → Option Line

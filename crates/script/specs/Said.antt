@@ -23,8 +23,8 @@ abbrev pub Said : Option line.Line → Line → List ℕ → List ℕ → Type 0
 Said o Skip bytes words = o ≡ Some line.skip
 Said o (Limits closed_pages open_pages) bytes words = o ≡ Some (line.limits closed_pages open_pages)
 Said o (Call n) bytes words = (c : model.Call) × (o ≡ Some (line.call c)) × Stands c n bytes
-Said o (Write open-page page n) bytes words = (o ≡ Some (line.write open-page page (take n words))) × (n ≤ 1024)
-Said o (Print open-page page) bytes words = o ≡ Some (line.print open-page page)
+Said o (Write open_page page n) bytes words = (o ≡ Some (line.write open_page page (take n words))) × (n ≤ 1024)
+Said o (Print open_page page) bytes words = o ≡ Some (line.print open_page page)
 Said o Unreadable bytes words = o ≡ None
 
 -- The bytes of a call are read back as that call.
@@ -32,8 +32,8 @@ abbrev pub Back : Option line.Line → Line → List ℕ → Type 0
 Back o (Call n) bytes = (c : model.Call) → o ≡ Some (line.call c) → read_call (take n bytes) ≡ c
 Back o Skip bytes = Unit {0}
 Back o (Limits closed_pages open_pages) bytes = Unit {0}
-Back o (Write open-page page n) bytes = Unit {0}
-Back o (Print open-page page) bytes = Unit {0}
+Back o (Write open_page page n) bytes = Unit {0}
+Back o (Print open_page page) bytes = Unit {0}
 Back o Unreadable bytes = Unit {0}
 
 -- a call that a number and fields make, and that its bytes can carry in the room that there is
@@ -48,8 +48,8 @@ Sound (kind.Call n) = (f : Body) → f.list ≡ [] → Callable n f
 Sound kind.HoldFrom = Unit {0}
 Sound kind.Interrupt = Unit {0}
 Sound kind.Limits = Unit {0}
-Sound (kind.Write open-page) = Unit {0}
-Sound (kind.Print open-page) = Unit {0}
+Sound (kind.Write open_page) = Unit {0}
+Sound (kind.Print open_page) = Unit {0}
 
 -- numbers that were written from the third byte on, and how many
 abbrev pub Listed : Option (List ℕ) → Option ℕ → List ℕ → List ℕ → Type 0

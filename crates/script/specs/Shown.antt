@@ -38,7 +38,7 @@ page_name false = codes "closed "
 
 -- a page, by whether it is open, its number and its words
 abbrev pub page_text : Bool → ℕ → List ℕ → List ℕ
-page_text open-page n ws = page_name open-page ++ (decimal n ++ (codes ":" ++ spaced (trimmed ws)))
+page_text open_page n ws = page_name open_page ++ (decimal n ++ (codes ":" ++ spaced (trimmed ws)))
 
 -- unless there was no memory, a text was added to another
 abbrev pub Adds : {T E : Type 0} → Result T E → List ℕ → List ℕ → List ℕ → Type 0

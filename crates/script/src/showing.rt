@@ -6,9 +6,9 @@ ghost use Rattle.script.specs.Shown.{Adds, spaced, with_numbers, answer_text, tr
 
 use answers::Answer;
 use fields::Numbers;
-use std::fmt;
+use std::alloc::AllocError;
 
-fn show_numbers(numbers: Numbers<'_>, out: &mut String) -> fmt::Result
+fn show_numbers(numbers: Numbers<'_>, out: &mut String) -> Result<(), AllocError>
     ensures { Adds result (bytes_of out.old) (bytes_of out.new) (spaced (numbers_of numbers.entry)) }
 {
     for index in 0..numbers.len() {
@@ -20,7 +20,7 @@ fn show_numbers(numbers: Numbers<'_>, out: &mut String) -> fmt::Result
     Ok(())
 }
 
-fn show_with(numbers: Numbers<'_>, out: &mut String) -> fmt::Result
+fn show_with(numbers: Numbers<'_>, out: &mut String) -> Result<(), AllocError>
     ensures { Adds result (bytes_of out.old) (bytes_of out.new) (with_numbers (numbers_of numbers.entry)) }
 {
     if numbers.len() == 0 {
@@ -31,7 +31,7 @@ fn show_with(numbers: Numbers<'_>, out: &mut String) -> fmt::Result
 }
 
 // Adds an answer's line, without its end, to a text.
-pub fn show_answer(answer: Answer<'_>, out: &mut String) -> fmt::Result
+pub fn show_answer(answer: Answer<'_>, out: &mut String) -> Result<(), AllocError>
     ensures { Adds result (bytes_of out.old) (bytes_of out.new) (answer_text (answer_of answer.entry)) }
 {
     match answer {
@@ -65,7 +65,7 @@ fn used(words: &[u32]) -> usize
     count
 }
 
-fn show_words(words: &[u32], out: &mut String) -> fmt::Result
+fn show_words(words: &[u32], out: &mut String) -> Result<(), AllocError>
     ensures { Adds result (bytes_of out.old) (bytes_of out.new) (spaced words.now) }
 {
     for word in words {
@@ -74,7 +74,7 @@ fn show_words(words: &[u32], out: &mut String) -> fmt::Result
     Ok(())
 }
 
-fn show_name(open: bool, out: &mut String) -> fmt::Result
+fn show_name(open: bool, out: &mut String) -> Result<(), AllocError>
     ensures { Adds result (bytes_of out.old) (bytes_of out.new) (page_name «open») }
 {
     if open {
@@ -85,7 +85,7 @@ fn show_name(open: bool, out: &mut String) -> fmt::Result
 }
 
 // Adds a page's line, without its end, to a text.
-pub fn show_page(open: bool, page: u64, words: &[u32], out: &mut String) -> fmt::Result
+pub fn show_page(open: bool, page: u64, words: &[u32], out: &mut String) -> Result<(), AllocError>
     ensures { Adds result (bytes_of out.old) (bytes_of out.new) (page_text «open» page words.now) }
 {
     show_name(open, out)?;

@@ -14,8 +14,8 @@ invariant-of-result c =
         rw (
           refilled_with c.in-Ok.memory c.open.new.memory _ c.open.auto.memory c.as_mut_slice.ensures.value
               ∙ c.in-Ok-open.ensures.1,
-          c.in-Ok-from_elem.ensures.exact (λ y h. h),
-          c.in-Ok-from_elem-2.ensures.exact (λ y h. h),
+          c.in-Ok-from_elem.ensures.items_if_clones_equal (λ y h. h),
+          c.in-Ok-from_elem-2.ensures.items_if_clones_equal (λ y h. h),
         ) (opened_made p o (sym c.if-not-in_range.ensures)),
       ) ∣₁,
       tt,
@@ -27,7 +27,7 @@ returns-in-Ok-open c = (
   rw (
     refilled_with c.in-Ok.memory c.open.new.memory _ c.open.auto.memory c.as_mut_slice.ensures.value
         ∙ c.in-Ok-open.ensures.1,
-    c.in-Ok-from_elem.ensures.exact (λ y h. h),
-    c.in-Ok-from_elem-2.ensures.exact (λ y h. h),
+    c.in-Ok-from_elem.ensures.items_if_clones_equal (λ y h. h),
+    c.in-Ok-from_elem-2.ensures.items_if_clones_equal (λ y h. h),
   ) (opened_made c.args.limits.closed c.args.limits.open (sym c.if-not-in_range.ensures)),
 )
