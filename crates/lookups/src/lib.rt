@@ -167,7 +167,7 @@ pub fn has_parts(memory: &[u64], cell: u64) -> bool
     ensures { result ≡ has_parts (slice_index memory.now 0) memory.now cell }
 {
     let mut found = false;
-    'pages: for page in 0..pages::pages(memory) {
+    'pages: for page in 0..full_pages::pages(memory) {
         let Some(owner) = part_of(record_of(memory, page)) else {
             continue 'pages;
         };

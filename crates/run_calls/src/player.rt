@@ -207,18 +207,28 @@ fn lines<R: Read, W: Write>(
     Ok(Ended::Well)
 }
 
+fn played<R: Read + Drop, W: Write + Drop>(
+    heap: Global,
+    input: R,
+    output: W,
+    prints: Prints,
+) -> io::Result<Ended> {
+    let mut reader = BufReader::new(heap, input)?;
+    let mut out = BufWriter::new(heap, output)?;
+    let ended = lines(heap, &mut reader, &mut out, prints)?;
+    out.flush()?;
+    Ok(ended)
+}
+
 // Plays the lines of a file, and says how that ended.
 pub fn play<R: Read + Drop, W: Write + Drop>(
     heap: Global,
-    mut reader: BufReader<R>,
-    mut out: BufWriter<W>,
+    input: R,
+    output: W,
     prints: Prints,
 ) -> Ended {
-    match lines(heap, &mut reader, &mut out, prints) {
-        Ok(ended) => match out.flush() {
-            Ok(()) => ended,
-            Err(error) => Ended::Io(error),
-        },
+    match played(heap, input, output, prints) {
+        Ok(ended) => ended,
         Err(error) => Ended::Io(error),
     }
 }

@@ -6,8 +6,7 @@ mod player;
 
 use options::{Options, Source};
 use player::{Ended, Prints, play};
-use std::io::BufReader;
-use std::{fs, io};
+use std::fs;
 
 const HELP: &str =
     "run_calls: plays a file of calls to the monitor, and prints what each is answered
@@ -73,23 +72,13 @@ fn main(rt: HostRuntime) -> Result<(), Failed> {
         Source::Input => complain(
             &rt,
             "standard input",
-            play(
-                heap,
-                BufReader::new(rt.stdin()),
-                io::BufWriter::new(rt.stdout()),
-                prints,
-            ),
+            play(heap, rt.stdin(), rt.stdout(), prints),
         ),
         Source::File(path) => match fs::open(&rt, path.as_str()) {
             Ok(file) => complain(
                 &rt,
                 path.as_str(),
-                play(
-                    heap,
-                    BufReader::new(file),
-                    io::BufWriter::new(rt.stdout()),
-                    prints,
-                ),
+                play(heap, file, rt.stdout(), prints),
             ),
             Err(error) => {
                 let _ = eprintln!(rt; "run_calls: {path}: {error}");

@@ -1,7 +1,7 @@
 // A session: the monitor with memory and pages of its own.
 #![tactic(auto)]
 
-mod pages;
+mod flat;
 mod state;
 
 pub use state::{Session, Unopened, open};

@@ -7,7 +7,7 @@ ghost use Rattle.session.specs.Flat.{page_in, whole_page, page_put, page_fits};
 ghost use Rattle.session.specs.Opening.{Opens};
 
 use super::{Session, Unopened};
-use crate::pages;
+use crate::flat;
 use answers::Refusal;
 use fields::Unwritten;
 use monitor::{Limits, Reply};
@@ -74,7 +74,7 @@ impl Session {
             (whole_page words.now) else self.old.«open».items) }
         ensures others { (self.new.memory ≡ self.old.memory) × (self.new.closed ≡ self.old.closed) }
     {
-        pages::write(self.open.as_mut_slice(), page, words)
+        flat::write(self.open.as_mut_slice(), page, words)
     }
 
     // Somebody whom the machine lets writes a closed page, likewise.
@@ -84,20 +84,20 @@ impl Session {
             (whole_page words.now) else self.old.closed.items) }
         ensures others { (self.new.memory ≡ self.old.memory) × (self.new.«open» ≡ self.old.«open») }
     {
-        pages::write(self.closed.as_mut_slice(), page, words)
+        flat::write(self.closed.as_mut_slice(), page, words)
     }
 
     // The words of an open page, if there is such a page.
     pub fn open_page(&self, page: u64) -> Option<&[u32]>
         ensures { MatchOption result (length self.now.«open».items / 1024 ≤ page) (λ x. (page < length self.now.«open».items / 1024) × (x.now ≡ page_in self.now.«open».items page)) }
     {
-        pages::page(self.open.as_slice(), page)
+        flat::page(self.open.as_slice(), page)
     }
 
     // The words of a closed page, if there is such a page.
     pub fn closed_page(&self, page: u64) -> Option<&[u32]>
         ensures { MatchOption result (length self.now.closed.items / 1024 ≤ page) (λ x. (page < length self.now.closed.items / 1024) × (x.now ≡ page_in self.now.closed.items page)) }
     {
-        pages::page(self.closed.as_slice(), page)
+        flat::page(self.closed.as_slice(), page)
     }
 }

@@ -3,7 +3,7 @@ use borrow.Rule.Slice.PartMut.{put_mid}
 use Rattle.std.proofs.lemmas.Bool.{and_from}
 use Rattle.std.proofs.lemmas.List.{drop-drop}
 use Rattle.session.specs.Flat.{whole_page}
-use Rattle.session.proofs.pages.write.Goals as goal
+use Rattle.session.proofs.flat.write.Goals as goal
 
 pub returns : goal.returns
 returns c =

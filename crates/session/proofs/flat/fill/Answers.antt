@@ -1,6 +1,6 @@
 use Rattle.std.proofs.Common.{◌≡◌, ℕ, ◌-◌, List, ◌++◌, length, drop, replicate, ap, ◌∙◌, arith}
 use Rattle.std.proofs.lemmas.List.{drop-replicate}
-use Rattle.session.proofs.pages.fill.Goals as goal
+use Rattle.session.proofs.flat.fill.Goals as goal
 
 pub returns : goal.returns
 returns c =

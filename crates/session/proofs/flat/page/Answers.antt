@@ -1,5 +1,5 @@
 use Rattle.std.proofs.Common.{◌≡◌, ℕ, ◌+◌, ◌-◌, ◌*◌, List, take, drop, ap, ◌∙◌, arith}
-use Rattle.session.proofs.pages.page.Goals as goal
+use Rattle.session.proofs.flat.page.Goals as goal
 
 pub returns : goal.returns
 returns c =
