@@ -1,6 +1,6 @@
 -- The checks over a state's memory come to what the definitions' come to.
 use Rattle.std.proofs.Common.{◌≡◌, ℕ, ◌<◌, Bool, true, false, cond, not, ◌&&◌, eqb, ltb, List, [], ◌∷◌, is_some, Some, None, Option, sym, refl, ap, ◌∙◌, ap₂, arith, ltb-true}
-use borrow.Author.Tests.{not_true}
+use borrow.Author.Tests.{not-true}
 use Rattle.std.proofs.lemmas.Bool.{and_parts}
 use Rattle.model.specs.Calls.{Place, new_cell, new_thread, new_table, hold, give, show}
 use Rattle.model.specs.Pages as model
@@ -42,7 +42,7 @@ module _ (l : Limits) (s : State) (k : Known l s) where
       check _ _ _ _ _ (ap not (stopped_right l s k c)) (λ f.
       let y = its_cell l s c g in
       check _ _ _ _ _
-      (ap (λ o. not (is_some o)) (table_by_right l s k c y.0 y.1 (live_cell l s c g (not_true _ f)) i
+      (ap (λ o. not (is_some o)) (table_by_right l s k c y.0 y.1 (live_cell l s c g (not-true _ f)) i
       (omega (arith, ltb-true i l.places h, k.sized.places_are)))) (λ _.
       check _ _ _ _ _ (there_right l s k p) (λ _. check _ _ _ _ _ (freed_right l s k p) (λ _.
       check _ _ _ _ _ (ap not (sealed_right l s k c)) (λ _. refl)))))))

@@ -1,6 +1,6 @@
 -- What the calls write into a state's memory is the memory of the state after them.
 use Rattle.std.proofs.Common.{◌≡◌, ℕ, ◌*◌, ◌%◌, ◌<◌, Bool, true, false, cond, not, ◌&&◌, eqb, ltb, ◌≢◌, List, [], ◌∷◌, ◌++◌, length, get_or, set, replicate, is_some, Some, None, Option, unwrap_or, sym, refl, ap, ◌∙◌, subst, ap₂, append_assoc, arith, ltb-true}
-use borrow.Author.Tests.{eqb_apart, not_true}
+use borrow.Author.Tests.{eqb_apart, not-true}
 use lib.ListN.{length-replicate}
 use Rattle.std.proofs.lemmas.Bool.{and_parts}
 use Rattle.sha256.specs.Words.{two_words}
@@ -63,7 +63,7 @@ module _ (l : Limits) (s : State) (k : Known l s) where
       let b = and_parts (ltb p l.pages) (ltb t l.pages) a.0 in
       let f = and_parts (model.is_free (entry s p)) (model.is_free (entry s t)) q.1.0 in
       let x : Entry = cell (record { top = t; phase = model.building; measured = [] }) in
-      let t-free = other s p x t free (the_free (entry s t) f.1) (eqb_apart p t (not_true _ a.1)) in
+      let t-free = other s p x t free (the_free (entry s t) f.1) (eqb_apart p t (not-true _ a.1)) in
       ap (λ m. begun m t (rec.Top p)) (edits_written.new_cell l s p t Building made.none_measured (low p b.0) (bare p f.0) none_measured)
       ∙ edits_written.become l (edited s p x) t (rec.Top p) (omega (arith, low t b.1, long_edited s p x)) (subst Bare (sym t-free) tt) tt
       ∙ ap (λ n. encode l (apply (edited s p x) (put_entry t (top (record { cell = p; tables = replicate n None })))))
@@ -147,7 +147,7 @@ module _ (l : Limits) (s : State) (k : Known l s) where
   table_written p c i h =
       let q = passes (system_checks l s (new_table p c i)) h in
       let y = its_cell l s c q.1.0 in
-      let live = live_cell l s c q.1.0 (not_true _ q.1.1.0) in
+      let live = live_cell l s c q.1.0 (not-true _ q.1.1.0) in
       ap (λ o. made.made_table (encode l s) p c (look.top_of o) i) (had l s k c y.0 y.1 live)
       ∙ table_made c y.0 y.1 live p (low p q.1.1.1.1.0) (bare p q.1.1.1.1.1.0) i
       (omega (arith, ltb-true i l.places q.0, k.sized.places_are))
