@@ -1,6 +1,6 @@
 -- The bytes of answers keep their promises.
 use Rattle.std.proofs.Common.{◌≡◌, ℕ, ◌≤◌, true, false, List, length, Some, None, Ok, refl, arith}
-use Rattle.std.specs.List.{AllByRecursion as All}
+use Rattle.std.specs.List.{AllByRecursion}
 use Rattle.fields.specs.Bytes.{Bytes, numbers_bytes}
 use Rattle.fields.specs.Codec.{read_all}
 use Rattle.fields.proofs.Bodies.{list_fits}
@@ -10,7 +10,7 @@ use Rattle.model.specs.Answers.{Answer, refused, done, number, enters, told, lef
 use Rattle.answers.specs.Table.{table, parts, answers, carried, Carried, write_answer}
 
 -- row by row: the fields of what a row makes are those that it was made of
-rows_again : All (Again parts) table
+rows_again : AllByRecursion (Again parts) table
 rows_again =
     two_numbers 0 also no_numbers 1 also one_number 2 also one_and_list 255 3 also one_and_list 255 4 also two_numbers 5 also tt
 

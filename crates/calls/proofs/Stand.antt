@@ -1,6 +1,6 @@
 -- The bytes of calls keep their promises.
 use Rattle.std.proofs.Common.{◌≡◌, ℕ, true, false, List, Some, None, Ok, Err, Option, Result, refl, arith}
-use Rattle.std.specs.List.{AllByRecursion as All, slice_get}
+use Rattle.std.specs.List.{AllByRecursion, slice_get}
 use Rattle.std.specs.Option.{option_to_list}
 use Rattle.fields.specs.Codec.{read_all}
 use Rattle.fields.specs.Steps.{Reading}
@@ -18,7 +18,7 @@ use Rattle.model.specs.Calls.{leave, interrupt, fault, grow, shrink, extend, who
 use Rattle.calls.specs.Table.{table, parts, calls, carried, Carried, read_call, write_call}
 
 -- row by row: the fields of what a row makes are those that it was made of
-rows_again : All (Again parts) table
+rows_again : AllByRecursion (Again parts) table
 rows_again =
     no_numbers 0
     also two_numbers 1

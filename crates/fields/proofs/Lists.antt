@@ -1,6 +1,6 @@
 -- Beginnings of lists.
 use Rattle.std.proofs.Common.{◌≡◌, ℕ, suc, ◌+◌, ◌-◌, ◌≤◌, List, [], ◌∷◌, ◌++◌, length, take, sym, refl, ap, ◌∙◌, append_assoc, arith, length-append}
-use Rattle.std.specs.List.{AllByRecursion as All}
+use Rattle.std.specs.List.{AllByRecursion}
 use Rattle.fields.specs.Codec.{Begins}
 
 pub begins_none : (ys : List ℕ) → Begins [] ys
@@ -20,7 +20,7 @@ pub take_behind : (ps xs : List ℕ) (k : ℕ) → take (length ps + k) (ps ++ x
 take_behind [] xs k = let e : 0 + k ≡ k = omega arith in rw e refl
 take_behind (p ∷ ps) xs k = let e : suc (length ps) + k ≡ suc (length ps + k) = omega arith in rw e (ap (λ t. p ∷ t) (take_behind ps xs k))
 
-pub all_parts : {X : Type 0} (P : X → Type 0) (xs ys : List X) → All P (xs ++ ys) → All P xs × All P ys
+pub all_parts : {X : Type 0} (P : X → Type 0) (xs ys : List X) → AllByRecursion P (xs ++ ys) → AllByRecursion P xs × AllByRecursion P ys
 all_parts P [] ys h = (tt, h)
 all_parts P (x ∷ xs) ys h = let p = all_parts P xs ys h.1 in ((h.0, p.0), p.1)
 

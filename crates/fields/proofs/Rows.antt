@@ -3,7 +3,7 @@ use Rattle.std.proofs.Common.{◌≡◌, ℕ, suc, ◌+◌, ◌-◌, ◌<◌, �
 use borrow.Author.Tests.{eqb-false}
 use Rattle.std.proofs.lemmas.Bool.{cases_Bool}
 use Rattle.std.specs.Option.{option_map, option_to_list}
-use Rattle.std.specs.List.{AllByRecursion as All, slice_get}
+use Rattle.std.specs.List.{AllByRecursion, slice_get}
 use Rattle.model.specs.Calls as model
 use Rattle.fields.specs.Bytes.{Bytes, Wide}
 use Rattle.fields.specs.Codec.{Got, got, lost, and_then, closed, read_all}
@@ -26,7 +26,7 @@ lawful_shaped None = lawful_nothing _
 abbrev pub Again : {A : Type 0} → (A → ℕ × Body) → Row A → Type 0
 Again from r = (f : Body) → (body r.layout).fits f → from (r.makes f) ≡ (r.number, f)
 
-found : {A : Type 0} (from : A → ℕ × Body) (none : A) (rs : List (Row A)) (n : ℕ) (f : Body) → All (Again from) rs →
+found : {A : Type 0} (from : A → ℕ × Body) (none : A) (rs : List (Row A)) (n : ℕ) (f : Body) → AllByRecursion (Again from) rs →
     is_some (find n rs) ≡ true →
     (shaped (find n rs)).fits f → from (made none (find n rs) f) ≡ (n, f)
 found from none [] n f h s g = let z : ◌≡◌ {A = ℕ} 0 1 = cc in absurd (omega arith)
@@ -36,7 +36,7 @@ found from none (r ∷ rs) n f h s g =
     (λ y. rw y (found from none rs n f h.1 (rw y at s) (rw y at g)))
     (cases_Bool (eqb n r.number))
 
-pub lawful_messages : {A : Type 0} (from : A → ℕ × Body) (none : A) (rs : List (Row A)) → is_some (find 0 rs) ≡ true → All (Again from) rs →
+pub lawful_messages : {A : Type 0} (from : A → ℕ × Body) (none : A) (rs : List (Row A)) → is_some (find 0 rs) ≡ true → AllByRecursion (Again from) rs →
     Lawful (messages none rs from)
 lawful_messages from none rs zero-there again =
     lawful_via _ from (message rs) (lawful_both _ _ (lawful_byte _ zero-there) (λ n _. lawful_shaped (find n rs)))

@@ -1,14 +1,14 @@
 -- Numbers as bytes: eight for each, the low one first.
 use Rattle.std.specs.Prelude.{ℕ, zero, suc, ◌+◌, ◌*◌, ◌/◌, ◌%◌, ◌^◌, ◌<◌, List, [], ◌∷◌, ◌++◌, drop, slice_index}
-use Rattle.std.specs.List.{AllByRecursion as All}
+use Rattle.std.specs.List.{AllByRecursion}
 
 -- each is a byte
 abbrev pub Bytes : List ℕ → Type 0
-Bytes bs = All (λ b. b < 256) bs
+Bytes bs = AllByRecursion (λ b. b < 256) bs
 
 -- each fits eight bytes
 abbrev pub Wide : List ℕ → Type 0
-Wide ns = All (λ n. n < 2 ^ 64) ns
+Wide ns = AllByRecursion (λ n. n < 2 ^ 64) ns
 
 abbrev pub number_bytes : ℕ → List ℕ
 number_bytes n =

@@ -1,6 +1,6 @@
 -- Rows of one width that stand one after another, and the words of pages.
 use Rattle.std.specs.Prelude.{◌≡◌, ℕ, ◌+◌, ◌*◌, ◌≤◌, List, [], ◌∷◌, ◌++◌, length, take, drop}
-use Rattle.std.specs.List.{AllByRecursion as All}
+use Rattle.std.specs.List.{AllByRecursion}
 
 unfoldable pub flat : List (List ℕ) → List ℕ
 flat [] = []
@@ -8,7 +8,7 @@ flat (x ∷ xs) = x ++ flat xs
 
 -- each has so many numbers
 abbrev pub Wide : ℕ → List (List ℕ) → Type 0
-Wide w xs = All (λ x. length x ≡ w) xs
+Wide w xs = AllByRecursion (λ x. length x ≡ w) xs
 
 -- a list put in the place of as many numbers, from an index on
 abbrev pub list_put : List ℕ → ℕ → List ℕ → List ℕ

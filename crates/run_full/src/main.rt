@@ -75,11 +75,7 @@ fn main(rt: HostRuntime) -> Result<(), Failed> {
             play(heap, rt.stdin(), rt.stdout(), prints),
         ),
         Source::File(path) => match fs::open(&rt, path.as_str()) {
-            Ok(file) => complain(
-                &rt,
-                path.as_str(),
-                play(heap, file, rt.stdout(), prints),
-            ),
+            Ok(file) => complain(&rt, path.as_str(), play(heap, file, rt.stdout(), prints)),
             Err(error) => {
                 let _ = eprintln!(rt; "run_calls: {path}: {error}");
                 Err(Failed)

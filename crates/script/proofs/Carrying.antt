@@ -1,7 +1,7 @@
 -- Bytes can carry the calls that lines are.
 use Rattle.std.proofs.Common.{◌≡◌, ℕ, zero, suc, ◌^◌, ◌<◌, ◌≤◌, Bool, true, false, cond, ltb, leb, ◌⊎◌, List, [], ◌∷◌, length, get_or, Some, None, codes, Option, sym, refl, ap, ◌∙◌, subst, inl, inr, ⊎_elim, arith, le-leb, leb-true}
 use Rattle.std.specs.Option.{option_map}
-use Rattle.std.specs.List.{AllByRecursion as All}
+use Rattle.std.specs.List.{AllByRecursion}
 use Rattle.std.specs.Str.{bytes_eq}
 use Rattle.std.proofs.ByRecursion.{All-set}
 use Rattle.std.proofs.lemmas.Bool.{cases_Bool}
@@ -153,7 +153,7 @@ module _ (t : Taken) (s : Small t) where
   place_there : Wide (t.place.table ∷ (t.place.slot ∷ []))
   place_there = (s.table, (s.slot, tt))
 
-forms_carry : All (λ f. Carries f.kind) forms
+forms_carry : AllByRecursion (λ f. Carries f.kind) forms
 unfolding call_with carried
 forms_carry = (
   λ t s. record { short = refl; numbers = zeros; place = nowhere_small; list = tt },
@@ -311,7 +311,7 @@ or_else_some : (o p : Option line.Line) (l : line.Line) → or_else o p ≡ Some
 or_else_some (Some m) p l e = inl e
 or_else_some None p l e = inr e
 
-first_carries : (fs : List Form) (ws : List (List ℕ)) (c : model.Call) → All (λ f. Carries f.kind) fs →
+first_carries : (fs : List Form) (ws : List (List ℕ)) (c : model.Call) → AllByRecursion (λ f. Carries f.kind) fs →
     first_form fs ws ≡ Some (line.call c) → Carried c
 first_carries [] ws c h e = no_some _ (line.call c) e
 first_carries (f ∷ fs) ws c h e =

@@ -1,6 +1,6 @@
 -- Calls that are written stand at the front of the bytes.
 use Rattle.std.proofs.Common.{◌≡◌, ℕ, suc, ◌+◌, ◌*◌, ◌≤◌, Bool, true, false, List, [], ◌∷◌, ◌++◌, length, take, drop, set, Ok, Err, sym, refl, ap, ◌∙◌, subst, arith, lit≤, length-append, length-set}
-use Rattle.std.specs.List.{AllByRecursion as All}
+use Rattle.std.specs.List.{AllByRecursion}
 use Rattle.std.proofs.lemmas.List.{take_at}
 use Rattle.model.specs.Calls as model
 use Rattle.fields.specs.Bytes.{numbers_bytes}
@@ -64,7 +64,7 @@ hold_callable f (x ∷ (y ∷ l)) h = absurd (omega arith)
 pub hold_sound : (f : Body) → length f.list ≤ 1 → Callable 4 f
 hold_sound f h = hold_callable f f.list h
 
-pub forms_sound : All (λ f. Sound f.kind) forms
+pub forms_sound : AllByRecursion (λ f. Sound f.kind) forms
 unfolding call_with carried write_call calls numbers_bytes
 forms_sound = (
   λ f e. record { known = refl; short = refl; room = lit≤ tt },

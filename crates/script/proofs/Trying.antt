@@ -1,6 +1,6 @@
 -- Forms are tried in turn.
 use Rattle.std.proofs.Common.{◌≡◌, ℕ, zero, suc, ◌+◌, ◌<◌, true, false, List, [], ◌∷◌, length, drop, Some, None, Option, sym, refl, ap, ◌∙◌, subst, arith}
-use Rattle.std.specs.List.{AllByRecursion as All, slice_get}
+use Rattle.std.specs.List.{AllByRecursion, slice_get}
 use Rattle.script.specs.Words.{words}
 use Rattle.script.specs.Forms.{Form, forms}
 use Rattle.script.specs.Lines.{meant, or_else, as_form, first_form, skipped, line_of}
@@ -30,7 +30,7 @@ nth_end [] (suc i) e = refl
 nth_end (y ∷ xs) zero e = let z : ◌≡◌ {A = ℕ} 0 1 = cc in absurd (omega arith)
 nth_end (y ∷ xs) (suc i) e = nth_end xs i e
 
-pub all_nth : {A : Type 0} (P : A → Type 0) (xs : List A) (i : ℕ) (x : A) → All P xs → slice_get xs i ≡ Some x → P x
+pub all_nth : {A : Type 0} (P : A → Type 0) (xs : List A) (i : ℕ) (x : A) → AllByRecursion P xs → slice_get xs i ≡ Some x → P x
 all_nth P [] i x h e = let z : ◌≡◌ {A = ℕ} 0 1 = cc in absurd (omega arith)
 all_nth P (y ∷ xs) zero x h e = let s : y ≡ x = cc in subst P s h.0
 all_nth P (y ∷ xs) (suc i) x h e = all_nth P xs i x h.1 e

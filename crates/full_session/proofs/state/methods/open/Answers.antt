@@ -4,11 +4,12 @@ use Rattle.full_session.proofs.Refilled.{refilled_with}
 use Rattle.full_session.proofs.Written.{opened_made}
 use Rattle.full_session.proofs.state.methods.open.Goals as goal
 
-pub invariant-of-result : goal.invariant-of-result
-invariant-of-result c =
+pub invariant_of-result : goal.invariant_of-result
+invariant_of-result c =
     let p = c.args.limits.closed in
-    let o = c.args.limits.open in (
-      ∣ (
+    let o = c.args.limits.open in
+    record {
+      made = ∣ (
         limits_of p o,
         [],
         rw (
@@ -17,9 +18,8 @@ invariant-of-result c =
           c.in-Ok-from_elem.ensures.items_if_clones_equal (λ y h. h),
           c.in-Ok-from_elem-2.ensures.items_if_clones_equal (λ y h. h),
         ) (opened_made p o (sym c.if-not-in_range.ensures)),
-      ) ∣₁,
-      tt,
-    )
+      ) ∣₁;
+    }
 
 pub returns-in-Ok-open : goal.returns-in-Ok-open
 returns-in-Ok-open c = (
