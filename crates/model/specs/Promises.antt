@@ -221,7 +221,7 @@ pub record ASecret (can : ℕ → Bool) : Type 0 where
   pub alike : Alike limits [] first second
   pub runs : running_cell first.state ≡ Some cell
   pub holds : kind (entry first.state page) ≡ held_by cell
-  pub differs : get_or first.state.contents page [] ≢ slice_index_or second.state.contents page []
+  pub differs : slice_index_or first.state.contents page [] ≢ slice_index_or second.state.contents page []
   pub gives_same : SameGiven limits machine first second cell chance chance
 
 abbrev pub NotVacuous : Type 0
