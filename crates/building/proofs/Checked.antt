@@ -1,5 +1,5 @@
 -- The checks over a state's memory come to what the definitions' come to.
-use Rattle.std.proofs.Common.{◌≡◌, ℕ, ◌<◌, Bool, true, false, cond, not, ◌&&◌, eqb, ltb, List, [], ◌∷◌, is_some, Some, None, Option, sym, refl, ap, ◌∙◌, ap₂, arith, ltb-true}
+use Rattle.std.proofs.Common.{◌≡◌, ℕ, true, not, ◌&&◌, eqb, ltb, is_some, Some, None, Option, sym, refl, ap, ◌∙◌, ap₂, arith, ltb-true}
 use borrow.Author.Tests.{not-true}
 use Rattle.std.proofs.lemmas.Bool.{and_parts}
 use Rattle.model.specs.Calls.{Place, new_cell, new_thread, new_table, hold, give, show}
@@ -7,7 +7,6 @@ use Rattle.model.specs.Pages as model
 use Rattle.model.specs.Pages.{Cell, cell, is_cell, is_in, stopped, sealed, building, table_at, slot_at}
 use Rattle.model.specs.State.{Limits, State, entry}
 use Rattle.model.specs.Refusals.{failing, system_checks, cell_there, open_there, vacant, in_range}
-use Rattle.model.specs.Invariant.{Live}
 use Rattle.full_pages.specs.Layout.{encode}
 use Rattle.lookups.specs.Lookups as look
 use Rattle.lookups.proofs.Checking.{check}

@@ -1,5 +1,5 @@
 -- A page that was written, read again.
-use Rattle.std.proofs.Common.{◌≡◌, ℕ, ◌*◌, true, List, ◌++◌, length, get_or, take, drop, IfSome, Some, None, Option, ap, ◌∙◌, arith, ltb-true}
+use Rattle.std.proofs.Common.{◌≡◌, ℕ, ◌*◌, true, List, length, get_or, take, IfSome, Some, None, Option, ap, ◌∙◌, arith, ltb-true}
 use lib.ListN.{length-replicate}
 use Rattle.std.proofs.lemmas.List.{drop_at, take_at, length-take-le}
 use Rattle.full_pages.specs.Flat.{HasWords, page_in, page_put}

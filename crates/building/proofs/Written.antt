@@ -1,7 +1,6 @@
 -- What the calls write into a state's memory is the memory of the state after them.
-use Rattle.std.proofs.Common.{◌≡◌, ℕ, ◌*◌, ◌%◌, ◌<◌, Bool, true, false, cond, not, ◌&&◌, eqb, ltb, ◌≢◌, List, [], ◌∷◌, ◌++◌, length, get_or, set, replicate, is_some, Some, None, Option, unwrap_or, sym, refl, ap, ◌∙◌, subst, ap₂, append_assoc, arith, ltb-true}
+use Rattle.std.proofs.Common.{◌≡◌, ℕ, ◌%◌, ◌<◌, Bool, true, false, cond, not, ◌&&◌, eqb, ltb, List, [], ◌∷◌, ◌++◌, length, replicate, is_some, Some, None, Option, unwrap_or, sym, refl, ap, ◌∙◌, subst, append_assoc, arith, ltb-true}
 use borrow.Author.Tests.{eqb_apart, not-true}
-use lib.ListN.{length-replicate}
 use Rattle.std.proofs.lemmas.Bool.{and_parts}
 use Rattle.sha256.specs.Words.{two_words}
 use Rattle.sha256.specs.Measures.{Measures, more_measured}
@@ -14,7 +13,7 @@ use Rattle.model.specs.Pages.{Entry, free, cell, thread, top, table, held, spare
 use Rattle.model.specs.State as state
 use Rattle.model.specs.State.{Limits, State, entry, apply, apply_all, put_entry, put_slot, put_table}
 use Rattle.model.specs.Refusals.{failing, system_checks, cell_there, open_there, vacant}
-use Rattle.model.specs.Invariant.{Invariant, Live, EntryFits}
+use Rattle.model.specs.Invariant.{Live, EntryFits}
 use Rattle.model.specs.Monitor.{system_edits, copied, becomes_held, becomes_table}
 use Rattle.model.proofs.Lists.{get_d_any}
 use Rattle.model.proofs.Effects.{passes}

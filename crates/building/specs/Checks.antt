@@ -1,5 +1,5 @@
 -- The checks of the calls that build a cell, over the memory, in their order.
-use Rattle.std.specs.Prelude.{ℕ, Bool, true, false, not, ◌&&◌, List, [], ◌∷◌, is_some, Some, None, Option, ◌==◌, nat_lt}
+use Rattle.std.specs.Prelude.{ℕ, Bool, true, not, ◌&&◌, List, [], ◌∷◌, is_some, Some, None, Option, ◌==◌, nat_lt}
 use Rattle.model.specs.Calls.{Place}
 use Rattle.model.specs.Refusals.{Check, ◌else◌}
 use Rattle.lookups.specs.Lookups.{there, open_there, record_of, is_free, cell_of, is_building, is_sealed, is_stopped, table_by, vacant_by}

@@ -4,7 +4,6 @@ use borrow.Author.Tests.{lt-leb}
 use Rattle.std.proofs.lemmas.Bool.{cases_lt}
 use Rattle.std.proofs.lemmas.List.{drop_more, drop_all, drop-drop, drop-take, get_or-take}
 use Rattle.std.specs.List.{slice_get}
-use Rattle.model.specs.Calls as model
 use Rattle.fields.specs.Bytes.{number_in, numbers_in}
 use Rattle.fields.specs.Codec.{Got, got, lost, read_byte, numbers, closed}
 use Rattle.fields.specs.Shapes.{padded, place, list, place_if, list_if, body, layout, place_of, numbers_of, body_of}

@@ -1,5 +1,5 @@
 -- What it is to be read from bytes and written to them, and how such pieces are put together.
-use Rattle.std.specs.Prelude.{◌≡◌, ℕ, suc, ◌+◌, ◌-◌, ◌*◌, ◌≤◌, Bool, true, cond, List, [], ◌∷◌, ◌++◌, length, take, drop, Ok, Err, Result, nat_le}
+use Rattle.std.specs.Prelude.{◌≡◌, ℕ, suc, ◌-◌, ◌*◌, ◌≤◌, Bool, true, cond, List, [], ◌∷◌, ◌++◌, length, take, drop, Ok, Err, Result, nat_le}
 use Rattle.fields.specs.Bytes.{Bytes, Wide, numbers_bytes, numbers_in}
 
 -- What is read of the front of bytes: a value and the bytes behind it, or how many bytes are left where they cease to be one.

@@ -1,15 +1,12 @@
 -- Each number of a state's memory fits eight bytes.
-use Rattle.std.proofs.Common.{◌≡◌, ℕ, zero, suc, ◌+◌, ◌*◌, ◌/◌, ◌%◌, ◌^◌, ◌<◌, ◌≤◌, Bool, true, false, eqb, ltb, List, [], ◌∷◌, ◌++◌, map, length, get_or, take, replicate, Some, None, Option, sym, refl, ap, ◌∙◌, subst, arith, ltb-false, ltb-true}
+use Rattle.std.proofs.Common.{◌≡◌, ℕ, zero, suc, ◌/◌, ◌^◌, ◌<◌, ◌≤◌, Bool, true, false, eqb, ltb, List, [], ◌∷◌, ◌++◌, map, length, get_or, take, replicate, Some, None, Option, sym, refl, ap, ◌∙◌, arith, ltb-false, ltb-true}
 use Rattle.std.proofs.lemmas.List.{get_or_past}
-use Rattle.std.proofs.ByRecursion.{All-append}
 use Rattle.std.proofs.lemmas.Bool.{and_parts}
-use Rattle.sha256.specs.Words.{blocks_hashed}
-use Rattle.sha256.specs.Sha.{initial}
 use Rattle.fields.specs.Bytes.{Wide}
 use Rattle.model.specs.Pages as model
 use Rattle.model.specs.Pages.{Slot, nothing, closed, opened, Phase, phase_number, Entry, free, cell, thread, top, table, held, spare, kind, part_of}
 use Rattle.model.specs.State.{Limits, State, Sized, entry, word, all_words}
-use Rattle.model.specs.Invariant.{Invariant, SlotFits, EntryFits}
+use Rattle.model.specs.Invariant.{SlotFits, EntryFits}
 use Rattle.full_pages.specs.Flat.{flat}
 use Rattle.full_pages.specs.Packing.{bit, slot_number, some_number}
 use Rattle.full_pages.specs.Layout.{padded, running_hash, line, row, rows, header, tail, encode}

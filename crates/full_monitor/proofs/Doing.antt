@@ -1,17 +1,17 @@
 -- From what a room did to what the program does.
-use Rattle.std.proofs.Common.{◌≡◌, ℕ, Bool, true, false, not, List, [], ◌∷◌, is_some, Some, None, Ok, Err, Option, Result, unwrap_or, sym, refl, ap, ◌∙◌, ap₂, arith}
+use Rattle.std.proofs.Common.{◌≡◌, ℕ, true, false, List, [], is_some, Some, None, Ok, Err, Option, Result, unwrap_or, sym, refl, ap, ◌∙◌, ap₂, arith}
 use borrow.Author.Tests.{clash}
 use Rattle.answers.specs.declared.answer.Refusal.{Refusal}
 use Rattle.model.specs.Calls.{SystemCall, CellCall, Call, by_system, by_cell, garbled}
 use Rattle.model.specs.Answers.{Answer, refused, done, enters, told}
-use Rattle.model.specs.Refusals.{Check, ◌else◌, failing}
+use Rattle.model.specs.Refusals.{Check, failing}
 use Rattle.full_pages.specs.Rows.{running_in, running_put}
 use Rattle.lookups.specs.Lookups.{thread_of, caller, caller_of}
 use Rattle.lookups.specs.Outcomes.{Taken}
 use Rattle.lookups.specs.declared.Caller.{Caller}
 use Rattle.running.specs.Made.{top_for, Entered}
 use Rattle.running.specs.declared.Entry.{Entry}
-use Rattle.full_monitor.specs.Program.{system_fits, cell_fits, fits, system_checks, system_memory, system_pages, system_reply, cell_checks}
+use Rattle.full_monitor.specs.Program.{fits, system_checks, system_memory, system_pages, system_reply, cell_checks}
 use Rattle.full_monitor.specs.Program.{cell_memory, cell_pages, cell_reply, unless, reply_unless, system_failing, cell_failing}
 use Rattle.full_monitor.specs.Program.{caller_memory, caller_pages, caller_reply, says, leaves, leaves_pages, Does}
 use Rattle.full_monitor.specs.Outcomes.{done_by, entered_by, told_by}

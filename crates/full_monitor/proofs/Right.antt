@@ -1,5 +1,5 @@
 -- REFINEMENT: over what events made, the program does what the definitions say.
-use Rattle.std.proofs.Common.{◌≡◌, ℕ, true, List, Result, sym, refl, ap, ◌∙◌, subst, ap₂}
+use Rattle.std.proofs.Common.{◌≡◌, ℕ, true, List, Result, refl, ◌∙◌, subst}
 use Rattle.model.specs.Calls.{Call, by_system, by_cell, garbled}
 use Rattle.model.specs.State.{Limits, State, Sized}
 use Rattle.model.specs.Refusals.{checks, place}
@@ -12,7 +12,7 @@ use Rattle.full_pages.specs.Flat.{flat}
 use Rattle.full_pages.specs.Layout.{encode}
 use Rattle.lookups.proofs.Right.{Known}
 use Rattle.full_monitor.specs.Program.{says, leaves, leaves_pages}
-use Rattle.full_monitor.specs.Called.{Slices, Called, Runs, Made, Refines}
+use Rattle.full_monitor.specs.Called.{Slices, Called, Runs, Refines}
 use Rattle.full_monitor.specs.declared.values.Reply.{Reply}
 use Rattle.full_monitor.proofs.RightSystem.{says_system, leaves_system, pages_system}
 use Rattle.full_monitor.proofs.RightCell.{says_cell, leaves_cell, pages_cell}

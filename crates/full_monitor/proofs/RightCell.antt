@@ -1,11 +1,10 @@
 -- The program does with a cell's calls what the definitions say.
-use Rattle.std.proofs.Common.{◌≡◌, ℕ, ◌<◌, Bool, true, false, ◌&&◌, eqb, ltb, List, [], ◌∷◌, length, is_some, Some, None, Option, unwrap_or, sym, refl, ap, ◌∙◌, ap₂, arith, ltb-false, ltb-true, eqb-true}
-use lib.ListN.{length-replicate}
+use Rattle.std.proofs.Common.{◌≡◌, ℕ, ◌<◌, Bool, true, false, ◌&&◌, eqb, ltb, List, [], length, is_some, Some, None, Option, unwrap_or, sym, refl, ap, ◌∙◌, arith, ltb-false, ltb-true, eqb-true}
 use Rattle.std.specs.Option.{option_map}
 use Rattle.std.proofs.lemmas.List.{get_or_past}
 use Rattle.std.proofs.lemmas.Bool.{and_parts}
 use Rattle.model.specs.Calls.{CellCall, by_cell, cell_number, leave, interrupt, fault, grow, shrink, extend, who, draw}
-use Rattle.model.specs.Answers.{Answer, Refusal, told}
+use Rattle.model.specs.Answers.{Refusal, told}
 use Rattle.model.specs.Pages as pages
 use Rattle.model.specs.Pages.{Entry, free, thread, kind, thread_of}
 use Rattle.model.specs.State.{Limits, State, entry, apply_all, Caller, caller, all_words, Edit}

@@ -1,11 +1,11 @@
 -- The program does with the system's calls what the definitions say.
-use Rattle.std.proofs.Common.{◌≡◌, ℕ, ◌<◌, Bool, true, false, cond, not, ◌&&◌, ltb, List, [], is_some, Some, None, Option, sym, refl, ap, ◌∙◌, ap₂, arith, ltb-true}
+use Rattle.std.proofs.Common.{◌≡◌, ℕ, ◌<◌, Bool, true, false, cond, not, ◌&&◌, ltb, List, is_some, Some, None, Option, sym, refl, ap, ◌∙◌, ap₂, arith, ltb-true}
 use Rattle.std.specs.Option.{option_map}
-use Rattle.std.proofs.lemmas.Bool.{and_parts, and_from}
+use Rattle.std.proofs.lemmas.Bool.{and_parts}
 use Rattle.model.specs.Calls.{Place, SystemCall, by_system, system_number}
 use Rattle.model.specs.Calls.{how_many, new_cell, new_thread, new_table, hold, give, show, remove, seal, stop, enter, resume}
 use Rattle.model.specs.Answers.{Answer, Refusal, number}
-use Rattle.model.specs.State.{Limits, State, entry, apply_all}
+use Rattle.model.specs.State.{Limits, State, apply_all}
 use Rattle.model.specs.Refusals as refusals
 use Rattle.model.specs.Refusals.{failing, checks, place, refusal}
 use Rattle.model.specs.Monitor as model
@@ -13,7 +13,6 @@ use Rattle.model.specs.Monitor.{system_edits, reply, changed, answer_or, edits_o
 use Rattle.model.proofs.Effects.{passes}
 use Rattle.full_pages.specs.Flat.{flat}
 use Rattle.full_pages.specs.Layout.{encode}
-use Rattle.full_pages.specs.Rows.{running_in}
 use Rattle.full_pages.proofs.Edits.{edits_written}
 use Rattle.full_pages.proofs.Seen.{reads_right}
 use Rattle.lookups.proofs.Checking.{check}
@@ -22,7 +21,6 @@ use Rattle.building.proofs.Checked.{make_checked, start_checked, add_checked, ho
 use Rattle.building.proofs.Written.{cell_written, thread_written, table_written, held_written, pages_held, given_written, shown_written}
 use Rattle.lifecycle.proofs.Checked.{remove_checked, seal_checked, stop_checked}
 use Rattle.lifecycle.proofs.Written.{removed_written, sealed_written, stopped_written}
-use Rattle.running.specs.Made as running
 use Rattle.running.proofs.Checked.{enter_checked, resume_checked}
 use Rattle.running.proofs.Written.{entered_right, first_right, kept_right}
 use Rattle.growing.specs.Checks.{in_range}

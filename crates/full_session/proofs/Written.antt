@@ -1,5 +1,5 @@
 -- Events go on: what is written is one more.
-use Rattle.std.proofs.Common.{◌≡◌, ℕ, zero, suc, ◌+◌, ◌-◌, ◌*◌, ◌/◌, ◌<◌, ◌≤◌, Bool, true, false, cond, ltb, leb, List, [], ◌∷◌, ◌++◌, length, get_or, set, replicate, Ok, Err, Result, sym, refl, ap, ◌∙◌, subst, arith, length-append, ltb-true, lt-ltb, leb-true}
+use Rattle.std.proofs.Common.{◌≡◌, ℕ, zero, suc, ◌+◌, ◌-◌, ◌*◌, ◌/◌, ◌<◌, ◌≤◌, Bool, true, false, cond, ltb, leb, List, [], ◌∷◌, ◌++◌, length, get_or, replicate, Ok, Err, Result, sym, refl, ap, ◌∙◌, subst, arith, length-append, ltb-true, lt-ltb, leb-true}
 use mathlib.Core.Logic.{∥∥₁_elim}
 use denote.Struct.Props.{props}
 use lib.ListN.{length-replicate}
@@ -8,11 +8,11 @@ use Rattle.std.proofs.lemmas.Bool.{and_parts, and_from}
 use Rattle.fields.specs.declared.values.Unwritten.{Unwritten}
 use Rattle.fields.specs.declared.values.Unwritten.TheVariants.{TooMany, TooShort}
 use Rattle.model.specs.Calls.{Call}
-use Rattle.model.specs.State.{Limits, State, Sized, Page, word, all_words, zeros}
+use Rattle.model.specs.State.{Limits, State, Sized, Page, word, all_words}
 use Rattle.model.specs.Monitor as model
-use Rattle.model.specs.Events.{Event, called, wrote, wrote_open, event, state, Paged}
+use Rattle.model.specs.Events.{Event, wrote, wrote_open, event, state, Paged}
 use Rattle.model.proofs.Edits.{open_pages_stay}
-use Rattle.full_pages.specs.Flat.{flat, Wide, page_put}
+use Rattle.full_pages.specs.Flat.{flat, page_put}
 use Rattle.full_pages.specs.Layout.{encode}
 use Rattle.full_pages.specs.Rows as rows
 use Rattle.full_pages.specs.Rows.{new_memory}

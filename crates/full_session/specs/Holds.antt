@@ -1,5 +1,5 @@
 -- What a session holds: the memory and the pages that events made.
-use Rattle.std.specs.Prelude.{◌≡◌, ℕ, Bool, cond, List, ◌∷◌, Ok, Err, vec_items, Result}
+use Rattle.std.specs.Prelude.{ℕ, List, ◌∷◌, Ok, Err, vec_items, Result}
 use Rattle.fields.specs.declared.values.Unwritten.{Unwritten}
 use Rattle.model.specs.Calls.{Call}
 use Rattle.model.specs.State.{Limits}

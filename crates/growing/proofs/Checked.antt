@@ -1,6 +1,5 @@
 -- The checks over a state's memory come to what the definitions' come to, for one who calls.
-use Rattle.std.proofs.Common.{◌≡◌, ℕ, ◌<◌, ◌≤◌, Bool, true, false, cond, not, ◌&&◌, ltb, length, get_or, is_some, Some, None, Option, sym, refl, ap, ◌∙◌, subst, ap₂, arith, ltb-false, ltb-true}
-use Rattle.std.specs.Option.{option_map}
+use Rattle.std.proofs.Common.{◌≡◌, ℕ, ◌≤◌, Bool, true, false, cond, not, ◌&&◌, ltb, get_or, is_some, Some, None, Option, sym, refl, ap, ◌∙◌, subst, ap₂, arith, ltb-false, ltb-true}
 use Rattle.std.proofs.lemmas.List.{get_or_past}
 use Rattle.std.proofs.lemmas.Bool.{and_parts}
 use Rattle.model.specs.Calls.{Place, grow, shrink, extend}
@@ -14,7 +13,7 @@ use Rattle.model.proofs.ConfRunning.{Runs, runs_now}
 use Rattle.full_pages.specs.Layout.{encode}
 use Rattle.lookups.specs.Lookups as look
 use Rattle.lookups.proofs.Checking.{check}
-use Rattle.lookups.proofs.Right.{Known, both_some, the_first, shown_cell, shown_caller, top_had, spares_right, helds_right, its_table}
+use Rattle.lookups.proofs.Right.{Known, both_some, the_first, shown_caller, top_had, spares_right, helds_right, its_table}
 use Rattle.lookups.proofs.Right.{table_right, no_table, vacant_right, showing_right}
 use Rattle.growing.specs.Checks.{in_range, grow_checks, shrink_checks, extend_checks}
 

@@ -1,10 +1,8 @@
 -- The checks over a state's memory come to what the definitions' come to.
-use Rattle.std.proofs.Common.{◌≡◌, ℕ, Bool, not, ◌&&◌, ◌||◌, is_some, Some, None, Option, refl, ap, ◌∙◌, ap₂, arith}
+use Rattle.std.proofs.Common.{◌≡◌, ℕ, not, ◌&&◌, ◌||◌, is_some, Some, None, Option, refl, ap, ◌∙◌, ap₂, arith}
 use Rattle.model.specs.Calls.{remove, seal, stop}
-use Rattle.model.specs.Pages as model
 use Rattle.model.specs.Pages.{Entry, kind, kind_number, part_of, is_spare, stopped, sealed}
 use Rattle.model.specs.State.{Limits, State, entry, is_owner_in}
-use Rattle.model.specs.Refusals as refusals
 use Rattle.model.specs.Refusals.{failing, system_checks}
 use Rattle.full_pages.specs.Layout.{encode}
 use Rattle.full_pages.specs.Meaning.{shown}

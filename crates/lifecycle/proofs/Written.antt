@@ -1,8 +1,7 @@
 -- What the calls write into a state's memory is the memory of the state after them.
-use Rattle.std.proofs.Common.{◌≡◌, ℕ, ◌<◌, true, eqb, ltb, length, None, ap, ◌∙◌, arith, ltb-true, eqb-true}
+use Rattle.std.proofs.Common.{◌≡◌, ℕ, ◌<◌, true, eqb, ltb, length, None, arith, ltb-true, eqb-true}
 use Rattle.std.proofs.lemmas.Bool.{and_parts}
 use Rattle.model.specs.Calls.{remove, seal, stop}
-use Rattle.model.specs.Pages as model
 use Rattle.model.specs.Pages.{Entry, Phase, free, cell, thread, top, table, held, spare, is_cell, sealed, stopped}
 use Rattle.model.specs.State.{Limits, State, entry, apply, apply_all, set_phase, all_words}
 use Rattle.model.specs.Refusals.{failing, system_checks, cell_there}

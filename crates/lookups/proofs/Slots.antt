@@ -1,6 +1,5 @@
 -- What a slot has, as the code sees it.
-use Rattle.std.proofs.Common.{◌≡◌, ℕ, Bool, true, false, cond, eqb, List, Some, None, Option, sym, refl, ap, ◌∙◌}
-use Rattle.model.specs.Pages as model
+use Rattle.std.proofs.Common.{◌≡◌, ℕ, Bool, false, cond, eqb, List, Some, None, Option, sym, refl, ap, ◌∙◌}
 use Rattle.model.specs.Pages.{◌is◌, is_nothing, closed_in}
 use Rattle.full_pages.specs.Meaning.{slot_of}
 use Rattle.full_pages.specs.declared.values.Slot.{Slot}

@@ -1,6 +1,6 @@
 -- What the memory says of the pages that a call names. Any number may be asked for: a page that is not there counts as free, and a number
 -- in the memory is used only where such a page is there.
-use Rattle.std.specs.Prelude.{ℕ, zero, suc, ◌<◌, Bool, true, false, cond, ◌&&◌, ◌||◌, List, [], ◌∷◌, Some, None, Option, ◌==◌, nat_lt, slice_index}
+use Rattle.std.specs.Prelude.{ℕ, zero, suc, ◌<◌, Bool, true, false, cond, ◌||◌, List, Some, None, Option, ◌==◌, nat_lt, slice_index}
 use Rattle.model.specs.Calls.{Place}
 use Rattle.model.specs.Pages.{◌is◌, is_nothing, closed_in}
 use Rattle.full_pages.specs.Rows.{slot_in, table_in, running_in}

@@ -1,5 +1,5 @@
 -- What checks come to, and what a call leaves.
-use Rattle.std.specs.Prelude.{◌≡◌, ℕ, List, Some, None, Ok, Err, Result}
+use Rattle.std.specs.Prelude.{◌≡◌, List, Some, None, Ok, Err, Result}
 use Rattle.answers.specs.declared.answer.Refusal.{Refusal}
 use Rattle.model.specs.Refusals.{Check, failing}
 

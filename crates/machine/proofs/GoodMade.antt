@@ -1,18 +1,18 @@
 -- The made_up processor is a good one.
-use Rattle.std.proofs.Common.{◌≡◌, ℕ, zero, suc, ◌+◌, ◌*◌, ◌/◌, ◌%◌, ◌<◌, Bool, true, false, cond, ◌&&◌, eqb, ltb, List, [], ◌∷◌, length, get_or, take, set, sym, refl, ap, ◌∙◌, arith, length-set, ltb-true, lt-ltb, eqb-true}
+use Rattle.std.proofs.Common.{◌≡◌, ℕ, zero, suc, ◌+◌, ◌/◌, ◌%◌, Bool, true, false, cond, eqb, ltb, List, [], ◌∷◌, length, get_or, take, set, refl, ap, ◌∙◌, arith, length-set, lt-ltb}
 use Rattle.std.proofs.lemmas.Bool.{and_parts, and_from}
-use Rattle.model.specs.Calls.{CellCall, fault, grow}
+use Rattle.model.specs.Calls.{CellCall}
 use Rattle.model.specs.State.{word, all_words, seventeen}
 use Rattle.model.specs.Refusals.{cell_fits}
 use Rattle.model.specs.Machine.{ended_by}
-use Rattle.model.specs.Processor.{Seen, unseen, seen, seen_word, Step, moves, stores, asks, GoodStep, GoodProcessor}
-use Rattle.machine.specs.Instructions.{jump_when, decoded_by, decoded, register, with_register, low, order, holds, asked, address, loaded}
+use Rattle.model.specs.Processor.{Seen, unseen, seen, seen_word, GoodStep, GoodProcessor}
+use Rattle.machine.specs.Instructions.{decoded, register, with_register, low, order, holds, asked, address, loaded}
 use Rattle.machine.specs.Instructions.{stored, jumped, executed, fetched, made_up}
 use Rattle.model.proofs.GoodProcessor.{processors_are_machines}
 use Rattle.machine.specs.Came.{told_on, goes_on}
 use Rattle.machine.specs.Promises.{GoodEverywhere}
 use Rattle.machine.specs.declared.values.Instruction.{Instruction}
-use Rattle.machine.specs.declared.values.Instruction.TheVariants.{Unknown, Set, High, Move, Add, Subtract, Load, Store, Compare, Jump, Go, Ask}
+use Rattle.machine.specs.declared.values.Instruction.TheVariants.{Unknown, Jump}
 use Rattle.machine.specs.declared.values.When.{When}
 use Rattle.machine.specs.declared.values.When.TheVariants.{Always, Less, Equal, Greater, Unequal}
 

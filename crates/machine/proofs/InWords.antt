@@ -1,10 +1,10 @@
 -- What the processor does on the lent words is what it does on the pages in place.
-use Rattle.std.proofs.Common.{◌≡◌, ℕ, zero, suc, ◌+◌, ◌*◌, ◌/◌, ◌%◌, ◌<◌, ◌≤◌, Bool, true, false, cond, ltb, List, [], ◌∷◌, ◌++◌, length, get_or, take, drop, set, Some, None, Option, sym, refl, ap, ◌∙◌, subst, append-nil, arith, length-set, ltb-false, ltb-true, lt-ltb}
+use Rattle.std.proofs.Common.{◌≡◌, ℕ, zero, suc, ◌+◌, ◌*◌, ◌<◌, Bool, true, false, cond, ltb, List, [], ◌∷◌, length, get_or, set, Some, None, Option, sym, refl, ap, ◌∙◌, subst, arith, length-set, ltb-false, ltb-true, lt-ltb}
 use mathlib.Core.Path.{fun_ext}
 use Rattle.std.proofs.ByRecursion.{All-get_or}
 use Rattle.model.specs.Pages as model
 use Rattle.model.specs.Pages.{Slot, nothing, closed, opened, cell, table_at, slot_in, slots_in}
-use Rattle.model.specs.State.{Limits, State, entry, with_contents, with_open_pages}
+use Rattle.model.specs.State.{Limits, State, entry}
 use Rattle.model.specs.Invariant.{Live, SlotFits, EntryFits}
 use Rattle.model.specs.Machine.{words_behind, write_behind}
 use Rattle.model.specs.Processor as processor
@@ -17,7 +17,7 @@ use Rattle.full_pages.proofs.Flats.{flat_nth, flat_set}
 use Rattle.lookups.specs.Lookups as look
 use Rattle.lookups.proofs.Right.{Known, there_right, open_right, table_right, its_table, no_table, slot_right}
 use Rattle.machine.specs.Instructions.{made_up}
-use Rattle.machine.specs.Lent.{if_there, slot_by, slot_for, seen_by, looked, closed_put, open_put, Words, lent}
+use Rattle.machine.specs.Lent.{if_there, slot_by, slot_for, seen_by, closed_put, open_put, Words, lent}
 
 wide_set : (xs : List (List ℕ)) (i : ℕ) (ws : List ℕ) → Wide 1024 xs → length ws ≡ 1024 → Wide 1024 (set xs i ws)
 wide_set [] i ws h g = tt

@@ -1,23 +1,18 @@
 -- REFINEMENT: a run on the lent words is the definitions' run of the machine.
-use Rattle.std.proofs.Common.{◌≡◌, ℕ, ◌+◌, ◌*◌, ◌<◌, List, sym, refl, ap, ◌∙◌, subst, ap₂, arith}
+use Rattle.std.proofs.Common.{◌≡◌, ℕ, ◌<◌, List, sym, refl, ap, ◌∙◌, ap₂, arith}
 use Rattle.model.specs.Calls.{by_cell}
-use Rattle.model.specs.Pages.{Cell, cell}
-use Rattle.model.specs.State.{Limits, State, entry}
-use Rattle.model.specs.Invariant.{Live}
-use Rattle.model.specs.Events.{Event, state}
-use Rattle.model.specs.Machine.{ended_by}
+use Rattle.model.specs.State.{State}
+use Rattle.model.specs.Events.{state}
 use Rattle.model.specs.Worlds.{World}
-use Rattle.model.specs.Processor.{in_place, steps, patience, drawn, played}
+use Rattle.model.specs.Processor.{in_place, steps, patience, drawn}
 use Rattle.model.proofs.InPlace.{plays_in_place}
 use Rattle.full_pages.specs.Flat.{flat}
 use Rattle.full_pages.specs.Layout.{encode}
-use Rattle.lookups.proofs.Right.{Known}
 use Rattle.lookups.proofs.Edited.{contents_wide, opens_wide}
-use Rattle.full_monitor.specs.Called.{Made}
 use Rattle.full_monitor.proofs.Right.{known}
 use Rattle.machine.specs.Instructions.{made_up}
 use Rattle.machine.specs.Lent.{Words, lent}
-use Rattle.machine.specs.Came.{run_of, Runs, goes_on, chance_of, RunIs, Refines}
+use Rattle.machine.specs.Came.{run_of, Runs, goes_on, chance_of, Refines}
 use Rattle.machine.specs.declared.values.Ran.{Ran}
 use Rattle.machine.proofs.Settled.{settled}
 use Rattle.machine.proofs.InWords.{Has, ran_right}

@@ -1,5 +1,5 @@
 -- The call that ends a run is no interrupt but the one that steps used up make, with the registers that there are.
-use Rattle.std.proofs.Common.{◌≡◌, ℕ, zero, suc, ◌+◌, ◌/◌, ◌%◌, Bool, true, false, cond, eqb, List, get_or, set, sym, refl, ap, ◌∙◌, subst}
+use Rattle.std.proofs.Common.{◌≡◌, ℕ, zero, suc, ◌+◌, true, false, eqb, List, get_or, set, refl}
 use Rattle.model.specs.Calls.{CellCall}
 use Rattle.model.specs.Machine.{ended_by}
 use Rattle.model.specs.Processor.{Seen, unseen, seen, Step, moves, stores, asks, Memory, Came, then, steps}

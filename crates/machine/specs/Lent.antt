@@ -1,5 +1,5 @@
 -- What a cell sees and writes of the lent words, by its tables as the monitor's memory has them.
-use Rattle.std.specs.Prelude.{ℕ, ◌+◌, ◌*◌, ◌<◌, Bool, true, false, cond, List, Some, None, Option, nat_lt, slice_index, slice_set}
+use Rattle.std.specs.Prelude.{ℕ, ◌+◌, ◌*◌, ◌<◌, false, cond, List, Some, None, Option, nat_lt, slice_index, slice_set}
 use Rattle.model.specs.Pages.{Slot, nothing, closed, opened}
 use Rattle.model.specs.Processor.{Seen, unseen, seen, Memory, table_number, slot_number, word_number}
 use Rattle.full_pages.specs.Rows.{Sized, slot_in}

@@ -1,5 +1,4 @@
 -- What the code's values mean.
-use Rattle.std.specs.Prelude.{Option}
 use Rattle.model.specs.Processor.{Seen, unseen, seen}
 use Rattle.machine.specs.declared.values.Seen as code
 use Rattle.machine.specs.declared.values.Seen.TheVariants.{Unseen, Word}

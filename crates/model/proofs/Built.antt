@@ -6,7 +6,7 @@ use Rattle.model.specs.Calls.{SystemCall, CellCall, Call, by_system, by_cell, ga
 use Rattle.model.specs.Calls.{how_many, new_cell, new_thread, new_table, hold, give, show, remove, seal, stop, enter, resume}
 use Rattle.model.specs.Answers.{Refusal}
 use Rattle.model.specs.Measured.{Part, thread_from, page_at, part_words}
-use Rattle.model.specs.Pages.{Cell, Entry, free, cell_in, in_cell, kind, kind_number, is_free, at}
+use Rattle.model.specs.Pages.{Cell, Entry, free, cell_in, in_cell, kind, kind_number, is_free}
 use Rattle.model.specs.State.{Limits, State, entry, Edit, put_entry, measure, apply, apply_all}
 use Rattle.model.specs.Refusals.{system_checks, checks, refusal}
 use Rattle.model.specs.Monitor.{copied, becomes_held, system_edits, changed, edits_or, edits, after}

@@ -3,8 +3,8 @@ use Rattle.std.proofs.Common.{◌≡◌, ℕ, zero, suc, ◌≤◌, Bool, true, 
 use Rattle.std.proofs.lemmas.List.{get_or_past}
 use Rattle.std.proofs.lemmas.Bool.{cases_lt}
 use Rattle.model.specs.Measured.{Part}
-use Rattle.model.specs.Pages.{Slot, Phase, Cell, Thread, Top, Table, Entry, free, cell, kind, is_held, cell_of, cell_in, in_cell, in_thread}
-use Rattle.model.specs.Pages.{in_top, in_table, at, changed_at, slot_put_in, table_put_by, tables_by}
+use Rattle.model.specs.Pages.{Slot, Phase, Cell, Thread, Top, Table, Entry, free, kind, is_held, cell_of, cell_in, in_cell, in_thread}
+use Rattle.model.specs.Pages.{in_top, in_table, changed_at, slot_put_in, table_put_by, tables_by}
 use Rattle.model.specs.State.{Limits, State, entry, with_entries, apply, apply_all, Edit, put_entry, put_slot, put_table, measure}
 use Rattle.model.specs.State.{set_phase, set_thread, write_page, run}
 use Rattle.model.specs.Worlds.{World}

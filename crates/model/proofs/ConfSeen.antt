@@ -2,7 +2,7 @@
 use Rattle.std.proofs.Common.{◌≡◌, ℕ, suc, List, [], ◌∷◌, length, get_or, Some, None, Option, sym, refl, ap, ◌∙◌, arith}
 use Rattle.std.specs.Option.{option_map}
 use Rattle.model.specs.Calls.{SystemCall, CellCall, Call, by_system, by_cell, garbled}
-use Rattle.model.specs.Pages.{nothing, Phase, Cell, Entry, cell, thread, in_cell, in_thread, kind, part_of, cell_in, thread_in, tables_in}
+use Rattle.model.specs.Pages.{nothing, Phase, Cell, Entry, in_cell, in_thread, kind, part_of, cell_in, thread_in, tables_in}
 use Rattle.model.specs.Pages.{slots_in, cell_is, thread_goes, is_in, has_parts, tables_by, slot_in, table_put_by, Entries, at}
 use Rattle.model.specs.State.{Limits, State, entry, Caller, caller, caller_by, is_owner_in, owner_by}
 use Rattle.model.specs.Refusals.{system_checks, cell_checks, checks}

@@ -4,7 +4,7 @@ use Rattle.std.proofs.lemmas.List.{get_or_past}
 use Rattle.std.proofs.lemmas.Bool.{cases_lt, and_parts, and_from}
 use Rattle.std.proofs.lemmas.Bool.Decides.{nat_tests}
 use Rattle.model.specs.Calls.{Place, SystemCall, CellCall, Call, by_cell}
-use Rattle.model.specs.Pages.{Slot, nothing, closed, opened, writable, Entry, closed_in, ◌is◌, at, slot_in, slot_at, table_at, tables_by}
+use Rattle.model.specs.Pages.{Slot, nothing, closed, opened, writable, Entry, closed_in, ◌is◌, slot_in, slot_at, table_at, tables_by}
 use Rattle.model.specs.Pages.{tables_in, slots_in, cell_in, Cell}
 use Rattle.model.specs.State.{Limits, Sized, State, entry, word, all_words, Page, Caller, caller, Edit}
 use Rattle.model.specs.Refusals.{system_checks, cell_checks, system_fits, cell_fits, open_there}

@@ -3,11 +3,11 @@ use Rattle.std.proofs.Common.{◌≡◌, ℕ, ◌<◌, Bool, true, false, not, �
 use borrow.Author.Tests.{eqb-false}
 use Rattle.model.specs.Calls.{Place, SystemCall, CellCall, how_many, new_cell, new_thread, new_table, hold, give, show, remove, seal, stop}
 use Rattle.model.specs.Calls.{enter, resume, leave, interrupt, fault, grow, shrink, extend, who, draw}
-use Rattle.model.specs.Pages.{Slot, nothing, closed, opened, building, sealed, stopped, phase_number, ◌is◌, Table, Entry, free, cell}
-use Rattle.model.specs.Pages.{thread, table, held, spare, Kind, unused, first_page, thread_of, top_of, table_of, held_by, spare_of, kind}
+use Rattle.model.specs.Pages.{Slot, nothing, closed, opened, building, sealed, stopped, phase_number, ◌is◌, Table, Entry, free}
+use Rattle.model.specs.Pages.{table, held, spare, Kind, unused, first_page, thread_of, top_of, table_of, held_by, spare_of, kind}
 use Rattle.model.specs.Pages.{kind_number, part_of, is_free, is_cell, is_in, cell_in, cell_is, slots_in, has_parts, in_table, Entries, at}
 use Rattle.model.specs.Pages.{table_at, slot_in, slot_put_in, closed_in, is_spare, is_held}
-use Rattle.model.specs.State.{Limits, State, entry, Caller, caller, caller_by, is_owner_in, Edit, put_entry, put_slot, put_table, run}
+use Rattle.model.specs.State.{Limits, State, entry, Caller, caller, caller_by, is_owner_in, Edit, put_entry, put_slot, put_table}
 use Rattle.model.specs.Refusals.{there, system_checks, cell_checks, own_spare, may_go}
 use Rattle.model.specs.Monitor.{system_edits, cell_edits}
 use Rattle.model.proofs.Lists.{get_d_set, changed_here, getD_replicated}

@@ -3,7 +3,7 @@ use Rattle.std.proofs.Common.{◌≡◌, ℕ, ◌<◌, Bool, true, false, List, 
 use lib.ListN.{length-replicate}
 use Rattle.model.specs.Calls.{Place, Call, by_cell}
 use Rattle.model.specs.Pages.{closed, stopped, Cell, Entry, free, cell, top_of, table_of, held_by, kind, kind_number, part_of, is_cell}
-use Rattle.model.specs.Pages.{is_in, cell_in, cell_of, Entries, at, table_at, slot_in, slot_at}
+use Rattle.model.specs.Pages.{is_in, cell_in, cell_of, Entries, table_at, slot_in, slot_at}
 use Rattle.model.specs.State.{Limits, State, new_state, entry, zeros, Page, Caller, caller, with_contents, with_open_pages}
 use Rattle.model.specs.State.{Edit, apply_all}
 use Rattle.model.specs.Monitor.{edits, after}

@@ -1,7 +1,7 @@
 -- The ways in which a page becomes something else: each keeps what is said of whose pages are.
 use Rattle.std.proofs.Common.{◌≡◌, ℕ, zero, suc, Bool, true, false, ◌≢◌, ◌⊎◌, [], ◌∷◌, get_or, set, Some, None, sym, ap, ◌∙◌, inl, inr, arith}
 use Rattle.model.specs.Measured.{Part}
-use Rattle.model.specs.Pages.{Slot, nothing, closed, Phase, stopped, phase_number, ◌is◌, Thread, Top, Table, Entry, free, cell}
+use Rattle.model.specs.Pages.{Slot, nothing, closed, Phase, stopped, phase_number, ◌is◌, Thread, Top, Table, Entry, free}
 use Rattle.model.specs.Pages.{Kind, first_page, top_of, table_of, held_by, spare_of, kind, part_of, has_parts, cell_in, tables_in}
 use Rattle.model.specs.Pages.{slots_in, cell_is, is_in, in_cell, in_thread, in_top, in_table, Entries, at}
 use Rattle.model.proofs.CellAt.{measured_on, in_phase}

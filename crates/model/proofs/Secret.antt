@@ -1,11 +1,11 @@
 -- Two worlds that look alike to the system, in which a cell runs that holds other words in one than in the other.
-use Rattle.std.proofs.Common.{◌≡◌, ℕ, zero, suc, ◌<◌, Bool, true, false, ◌||◌, ◌≢◌, List, [], ◌∷◌, get_or, replicate, Some, None, sym, refl, ap, ◌∙◌, arith, lit<, lit≤}
+use Rattle.std.proofs.Common.{◌≡◌, ℕ, zero, suc, Bool, true, false, ◌||◌, ◌≢◌, List, [], ◌∷◌, get_or, replicate, Some, None, sym, refl, ap, ◌∙◌, arith, lit<, lit≤}
 use Rattle.model.specs.Calls.{Place, by_system, new_cell, new_thread, new_table, hold, seal, enter, leave}
 use Rattle.model.specs.Pages.{Slot, nothing, closed, opened, writable, sealed}
 use Rattle.model.specs.Pages.{Entry, free, cell, thread, top, table, held}
 use Rattle.model.specs.State.{Limits, entry, Page, no_registers, all_words}
 use Rattle.model.specs.Machine.{Machine, GoodMachine, ViewWell}
-use Rattle.model.specs.Worlds.{World, Act, calls, writes, runs, new_world, play, Reachable, after_run, ending}
+use Rattle.model.specs.Worlds.{World, Act, calls, writes, new_world, play, Reachable, after_run, ending}
 use Rattle.model.specs.Observers.{Alike, public_part, SameGiven, gives, left_with}
 use Rattle.model.specs.Processor.{Processor, GoodProcessor, asks, GoodStep}
 use Rattle.model.specs.Promises.{ASecret, NotVacuous, thin, all}

@@ -1,6 +1,6 @@
 -- What is promised: each a statement, a type. Those that the contract of a function in src/ names are proved. All are for any limits, and
 -- so for any set of calls that a stage has, unless sizes are named; for any machine that is good; and for any observer.
-use Rattle.std.specs.Prelude.{◌≡◌, ℕ, ◌%◌, ◌<◌, ◌≤◌, Bool, true, false, not, ◌&&◌, ◌||◌, ◌≢◌, List, [], length, get_or, is_some, Some, None, Option, ◌==◌, nat_lt, slice_index_or}
+use Rattle.std.specs.Prelude.{◌≡◌, ℕ, ◌%◌, ◌<◌, ◌≤◌, Bool, true, false, not, ◌&&◌, ◌||◌, ◌≢◌, List, [], length, is_some, Some, None, Option, ◌==◌, nat_lt, slice_index_or}
 use Rattle.model.specs.Calls.{Place, SystemCall, Call, by_system, by_cell, hold, give, remove, stop, grow}
 use Rattle.model.specs.Answers.{Refusal, refused, done, told}
 use Rattle.model.specs.Pages.{closed, building, sealed, stopped, phase_number, Cell, free, cell, spare, thread_of, held_by, spare_of}

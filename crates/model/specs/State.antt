@@ -1,5 +1,5 @@
 -- The monitor's state, its limits, who calls, and the edits that calls are made of.
-use Rattle.std.specs.Prelude.{◌≡◌, ℕ, ◌≤◌, Bool, true, false, not, ◌&&◌, List, [], ◌∷◌, length, replicate, Some, None, Option, ◌==◌, nat_lt, slice_set}
+use Rattle.std.specs.Prelude.{◌≡◌, ℕ, ◌≤◌, Bool, true, false, ◌&&◌, List, [], ◌∷◌, length, replicate, Some, None, Option, ◌==◌, nat_lt, slice_set}
 use Rattle.std.specs.Option.{option_map}
 use Rattle.model.specs.Calls.{Place}
 use Rattle.model.specs.Measured.{Part}

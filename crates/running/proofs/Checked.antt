@@ -1,5 +1,5 @@
 -- The checks over a state's memory come to what the definitions' come to.
-use Rattle.std.proofs.Common.{◌≡◌, ℕ, Bool, true, not, ltb, Some, None, Option, sym, refl, ap, ◌∙◌, arith}
+use Rattle.std.proofs.Common.{◌≡◌, ℕ, true, not, ltb, Some, None, Option, sym, refl, ap, ◌∙◌}
 use Rattle.std.specs.Option.{option_map}
 use Rattle.std.proofs.lemmas.Bool.{and_parts}
 use Rattle.model.specs.Calls.{enter, resume}

@@ -1,4 +1,4 @@
-use Rattle.std.proofs.Common.{Ok, Err, sym, refl, ap, ◌∙◌, subst}
+use Rattle.std.proofs.Common.{Ok, Err, sym, refl, subst}
 use Rattle.answers.specs.Meaning.{answer_of}
 use Rattle.model.specs.Answers.{refused}
 use Rattle.calls.proofs.Stand.{asked_is}

@@ -1,4 +1,4 @@
-use Rattle.std.proofs.Common.{◌≡◌, ℕ, ◌≤◌, true, false, List, length, Err, sym, refl, ap, ◌∙◌, arith}
+use Rattle.std.proofs.Common.{◌≡◌, ℕ, ◌≤◌, List, length, Err, sym, ap, ◌∙◌, arith}
 use borrow.Author.Tests.{clash}
 use Rattle.model.specs.Answers.{Answer, to_system}
 use Rattle.fields.specs.Steps.{Written}

@@ -1,4 +1,4 @@
-use Rattle.std.proofs.Common.{◌≡◌, true, false, is_some, sym, refl, ap, ◌∙◌}
+use Rattle.std.proofs.Common.{◌≡◌, true, is_some, sym, refl, ap, ◌∙◌}
 use Rattle.calls.specs.Meaning.{call_of}
 use Rattle.model.specs.Answers.{refused}
 use Rattle.full_monitor.specs.Program.{fits, Does}

@@ -1,5 +1,5 @@
-use Rattle.std.proofs.Common.{◌≡◌, true, false, sym, refl, ap, ◌∙◌, arith, eq-eqb, ne_eqb}
-use Rattle.lookups.specs.Lookups.{record_of, part_of, is_part}
+use Rattle.std.proofs.Common.{sym, refl, ap, ◌∙◌, arith, eq-eqb, ne_eqb}
+use Rattle.lookups.specs.Lookups.{part_of, is_part}
 use Rattle.lookups.proofs.Parts.{none_yet, none_here, one_found}
 use Rattle.lookups.proofs.has_parts.Goals as goal
 

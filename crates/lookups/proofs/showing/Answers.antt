@@ -1,4 +1,4 @@
-use Rattle.std.proofs.Common.{true, false, refl, ap, ◌∙◌, eq-eqb, ne_eqb}
+use Rattle.std.proofs.Common.{true, false, ◌∙◌, eq-eqb, ne_eqb}
 use Rattle.lookups.proofs.Slots.{none_closed, one_closed, showing_is}
 use Rattle.lookups.proofs.showing.Goals as goal
 

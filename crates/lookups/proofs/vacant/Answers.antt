@@ -1,4 +1,4 @@
-use Rattle.std.proofs.Common.{true, false, refl, ap, ◌∙◌}
+use Rattle.std.proofs.Common.{true, false, ap}
 use Rattle.model.specs.Pages.{is_nothing}
 use Rattle.full_pages.specs.Meaning.{slot_of}
 use Rattle.lookups.proofs.Slots.{something, empty_is}

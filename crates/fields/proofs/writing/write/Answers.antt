@@ -1,4 +1,4 @@
-use Rattle.std.proofs.Common.{◌≡◌, ◌-◌, ◌≤◌, length, refl, arith}
+use Rattle.std.proofs.Common.{◌≡◌, ◌≤◌, length, refl, arith}
 use Rattle.fields.specs.Shapes.{place_of, body_of}
 use Rattle.fields.proofs.Puts.{length_place_if, length_message, wrote_first, wrote_message}
 use Rattle.fields.proofs.writing.write.Goals as goal

@@ -1,4 +1,4 @@
-use Rattle.std.proofs.Common.{ℕ, true, List, sym, refl, ap, ◌∙◌, ap₂}
+use Rattle.std.proofs.Common.{true, refl, ap, ◌∙◌}
 use Rattle.fields.specs.Shapes.{place_of, numbers_of}
 use Rattle.calls.specs.Meaning.{call_of}
 use Rattle.model.specs.Answers.{told}

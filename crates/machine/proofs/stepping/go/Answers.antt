@@ -1,4 +1,4 @@
-use Rattle.std.proofs.Common.{◌≡◌, ℕ, ◌-◌, List, sym, refl, ap, ◌∙◌, arith}
+use Rattle.std.proofs.Common.{◌≡◌, ◌-◌, sym, ap, ◌∙◌, arith}
 use Rattle.model.specs.Calls.{by_cell}
 use Rattle.model.specs.Processor.{steps}
 use Rattle.machine.specs.Lent.{Words}

@@ -1,4 +1,4 @@
-use Rattle.std.proofs.Common.{◌≡◌, ℕ, List, sym, ap, ◌∙◌, ap₂}
+use Rattle.std.proofs.Common.{ℕ, List, sym, ap, ◌∙◌, ap₂}
 use Rattle.std.specs.Option.{option_map}
 use Rattle.model.specs.Processor.{word_number}
 use Rattle.calls.specs.Meaning.{call_of}

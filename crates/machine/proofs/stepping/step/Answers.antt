@@ -1,5 +1,5 @@
-use Rattle.std.proofs.Common.{◌≡◌, ℕ, ◌+◌, true, false, List, get_or, set, sym, refl, ap, ◌∙◌, subst}
-use Rattle.machine.specs.Instructions.{low, decoded, executed, fetched, made_up}
+use Rattle.std.proofs.Common.{ℕ, List, sym, refl, ap, ◌∙◌, subst}
+use Rattle.machine.specs.Instructions.{decoded, executed, fetched, made_up}
 use Rattle.machine.specs.Lent.{Words, looked}
 use Rattle.machine.specs.Meaning.{seen_of}
 use Rattle.machine.specs.Came.{Comes}

@@ -1,4 +1,4 @@
-use Rattle.std.proofs.Common.{◌≡◌, vec_items, sym, refl, ap, ◌∙◌}
+use Rattle.std.proofs.Common.{vec_items, sym, refl}
 use mathlib.Core.Logic.{∥∥₁_map}
 use Rattle.calls.specs.Table.{read_call}
 use Rattle.full_session.specs.Holds.{with_call}

@@ -1,6 +1,5 @@
-use Rattle.std.proofs.Common.{◌≡◌, true, cond, ◌∷◌, vec_items, sym, refl, ap, ◌∙◌, arith}
+use Rattle.std.proofs.Common.{cond, ◌∷◌, vec_items, refl, ap, ◌∙◌, arith}
 use mathlib.Core.Logic.{∥∥₁_map}
-use Rattle.model.specs.State.{all_words}
 use Rattle.model.specs.Events.{wrote}
 use Rattle.full_pages.specs.Flat.{page_put}
 use Rattle.full_session.specs.Flat.{page_fits, whole_page}

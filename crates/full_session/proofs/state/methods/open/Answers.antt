@@ -1,4 +1,4 @@
-use Rattle.std.proofs.Common.{◌≡◌, true, [], vec_items, sym, refl, ap, ◌∙◌}
+use Rattle.std.proofs.Common.{[], sym, ◌∙◌}
 use Rattle.full_session.specs.Opening.{limits_of}
 use Rattle.full_session.proofs.Refilled.{refilled_with}
 use Rattle.full_session.proofs.Written.{opened_made}
