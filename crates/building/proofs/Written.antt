@@ -97,7 +97,8 @@ module _ (l : Limits) (s : State) (k : Known l s) where
       (bare p q.1.1.0)
 
   -- A page that becomes a table, or is held, of a cell that is not stopped.
-  module _ (c : ℕ) (y : model.Cell) (e : entry s c ≡ cell y) (live : Live s c) (p : ℕ) (h : p < length s.entries) (b : Bare (entry s p)) where
+  module _ (c : ℕ) (y : model.Cell) (e : entry s c ≡ cell y) (live : Live s c) (p : ℕ) (h : p < length s.entries)
+      (b : Bare (entry s p)) where
     not_cell : p ≡ c → ⊥
     not_cell = bare_apart s p c (cell y) b e (λ z. z)
 
@@ -211,11 +212,13 @@ module _ (l : Limits) (s : State) (k : Known l s) where
       let u = its_table l s k c y.0 y.1 live w.table _ f in
       let held_state : State = apply_all s (becomes_held p c w ws) in
       let first : Measure = more_measured (measure_in (encode l s) c) (two_words 4 (place_word w)) in
-      let measured = more_measures first _ ws (measures c y.0 y.1 low-cell (two_words 4 (place_word w)) refl) (omega (arith, copied_1024 o)) in
+      let measured = more_measures first _ ws (measures c y.0 y.1 low-cell (two_words 4 (place_word w)) refl)
+      (omega (arith, copied_1024 o)) in
       ap (λ z. numbers_put (made.made_held (encode l s) p c (made.table_for (encode l s) c w) w) c 4
       (measure_words (made.held_measure (encode l s) c w z))) (source_right o q.1.1.1.0)
       ∙ ap (λ m. numbers_put m c 4 (measure_words (more_measured first ws)))
-      (held_made c y.0 y.1 live p (low p q.1.1.1.1.0) b w _ j f ∙ edits_written.write_page l (apply one (put_slot c w (closed p w.write w.run))) p ws)
+      (held_made c y.0 y.1 live p (low p q.1.1.1.1.0) b w _ j f
+      ∙ edits_written.write_page l (apply one (put_slot c w (closed p w.write w.run))) p ws)
       ∙ edits_written.measure l held_state c (page_at w ws) y.0 (more_measured first ws)
       (slot_other one c w (closed p w.write w.run) _ c (cell y.0)
       (tables_stay s p x c w.table y.0 t.0 y.1 t.1 (bare_apart s p c _ b y.1 (λ z. z)) (bare_apart s p _ _ b t.1 (λ z. z)) ∙ f)

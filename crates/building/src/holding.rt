@@ -32,7 +32,9 @@ fn may_hold(
     source: Option<u64>,
 ) -> Result<u64, Refusal>
     requires { (Sized memory.now) × ((place.table < 256) × (place.slot < 1024)) }
-    ensures { Checked (hold_checks memory.now page cell (place_of place) source) (λ table. (table ≡ table_for memory.now cell (place_of place)) × (table < slice_index memory.now 0) × (page < slice_index memory.now 0)
+    ensures { Checked (hold_checks memory.now page cell (place_of place) source)
+        (λ table. (table ≡ table_for memory.now cell (place_of place)) × (table < slice_index memory.now 0)
+        × (page < slice_index memory.now 0)
         × (cell < slice_index memory.now 0) × (source_there memory.now source ≡ true)) result }
 {
     let Some(has) = lookups::cell_of(memory, cell) else {
@@ -107,8 +109,10 @@ pub fn hold(
 ) -> Result<(), Refusal>
     requires sized { (Sized memory.old) × ((place.table < 256) × (place.slot < 1024)) }
     requires closed_len { (length closed.old ≡ slice_index memory.old 0 * 1024) × (length «open».now ≡ slice_index memory.old 1 * 1024) }
-    ensures memory { Taken (hold_checks memory.old page cell (place_of place) source) memory.old (held_memory memory.old «open».now page cell (place_of place) source) memory.new result }
-    ensures closed { Taken (hold_checks memory.old page cell (place_of place) source) closed.old (held_pages closed.old «open».now page source) closed.new result }
+    ensures memory { Taken (hold_checks memory.old page cell (place_of place) source) memory.old
+        (held_memory memory.old «open».now page cell (place_of place) source) memory.new result }
+    ensures closed { Taken (hold_checks memory.old page cell (place_of place) source) closed.old
+        (held_pages closed.old «open».now page source) closed.new result }
 {
     let table = may_hold(memory, page, cell, place, source)?;
     fill(closed, page, open, source);

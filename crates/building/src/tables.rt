@@ -14,7 +14,9 @@ use full_pages::{Phase, Record, Slot};
 // Whether a page may be a table of a cell, at a place of its top table; hands on the top table's page.
 fn may_add(memory: &[u64], page: u64, cell: u64, index: u64) -> Result<u64, Refusal>
     requires { Sized memory.now }
-    ensures { Checked (add_checks memory.now page cell index) (λ top. (top ≡ top_of (cell_of memory.now cell)) × (top < slice_index memory.now 0) × (page < slice_index memory.now 0) × (index < 256)) result }
+    ensures { Checked (add_checks memory.now page cell index)
+        (λ top. (top ≡ top_of (cell_of memory.now cell)) × (top < slice_index memory.now 0) × (page < slice_index memory.now 0)
+        × (index < 256)) result }
 {
     if index >= 256 {
         return Err(Refusal::by(8));
@@ -52,7 +54,8 @@ pub fn become_table(memory: &mut [u64], page: u64, cell: u64, top: u64, index: u
 // Makes a page a table of a cell.
 pub fn new_table(memory: &mut [u64], page: u64, cell: u64, index: u64) -> Result<(), Refusal>
     requires { Sized memory.old }
-    ensures { Taken (add_checks memory.old page cell index) memory.old (made_table memory.old page cell (top_of (cell_of memory.old cell)) index) memory.new result }
+    ensures { Taken (add_checks memory.old page cell index) memory.old
+        (made_table memory.old page cell (top_of (cell_of memory.old cell)) index) memory.new result }
 {
     let top = may_add(memory, page, cell, index)?;
     become_table(memory, page, cell, top, index);
@@ -62,7 +65,9 @@ pub fn new_table(memory: &mut [u64], page: u64, cell: u64, index: u64) -> Result
 // Whether a cell may be shown an open page at a place; hands on the table that the place is in.
 fn may_show(memory: &[u64], open: u64, cell: u64, place: Place) -> Result<u64, Refusal>
     requires { (Sized memory.now) × ((place.table < 256) × (place.slot < 1024)) }
-    ensures { Checked (show_checks memory.now «open» cell (place_of place)) (λ table. (table ≡ table_for memory.now cell (place_of place)) × (table < slice_index memory.now 0) × («open» < slice_index memory.now 1)) result }
+    ensures { Checked (show_checks memory.now «open» cell (place_of place))
+        (λ table. (table ≡ table_for memory.now cell (place_of place)) × (table < slice_index memory.now 0)
+        × («open» < slice_index memory.now 1)) result }
 {
     let Some(cell) = lookups::cell_of(memory, cell) else {
         return Err(Refusal::by(5));
@@ -82,7 +87,8 @@ fn may_show(memory: &[u64], open: u64, cell: u64, place: Place) -> Result<u64, R
 // Shows a cell an open page, which is never run.
 pub fn show(memory: &mut [u64], open: u64, cell: u64, place: Place) -> Result<(), Refusal>
     requires { (Sized memory.old) × ((place.table < 256) × (place.slot < 1024)) }
-    ensures { Taken (show_checks memory.old «open» cell (place_of place)) memory.old (shown memory.old «open» cell (place_of place)) memory.new result }
+    ensures { Taken (show_checks memory.old «open» cell (place_of place)) memory.old
+        (shown memory.old «open» cell (place_of place)) memory.new result }
 {
     let table = may_show(memory, open, cell, place)?;
     full_pages::put_slot(

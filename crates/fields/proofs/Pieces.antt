@@ -88,7 +88,8 @@ front_number a b c d e f g h t =
 
 -- the first eight bytes, one by one
 abbrev front : List ℕ → List ℕ
-front bs = get_or bs 0 0 ∷ (get_or bs 1 0 ∷ (get_or bs 2 0 ∷ (get_or bs 3 0 ∷ (get_or bs 4 0 ∷ (get_or bs 5 0 ∷ (get_or bs 6 0 ∷ (get_or bs 7 0 ∷ [])))))))
+front bs = get_or bs 0 0 ∷ (get_or bs 1 0 ∷ (get_or bs 2 0
+    ∷ (get_or bs 3 0 ∷ (get_or bs 4 0 ∷ (get_or bs 5 0 ∷ (get_or bs 6 0 ∷ (get_or bs 7 0 ∷ [])))))))
 
 eight : (bs : List ℕ) → 8 ≤ length bs → bs ≡ front bs ++ drop 8 bs
 eight bs h =

@@ -117,7 +117,8 @@ length_message s n f h =
     length_numbers_bytes _ ∙ ap (λ k. 8 * k) (simp length-take (omega arith)) in
     simp length-append (omega arith)
 
-pub wrote_message : (s : Shape) (n : ℕ) (f : Body) (a b c d e : List ℕ) (x y z end : ℕ) → length (n ∷ (body (layout s)).write f) ≤ length a →
+pub wrote_message : (s : Shape) (n : ℕ) (f : Body) (a b c d e : List ℕ) (x y z end : ℕ)
+    → length (n ∷ (body (layout s)).write f) ≤ length a →
     Wrote a b 0 (n ∷ []) x → Wrote b c x (numbers_bytes (take s.numbers f.numbers)) y → Wrote c d y ((place_if s.place).write
     f.place) z →
     Wrote d e z ((list_if s.list).write f.list) end →

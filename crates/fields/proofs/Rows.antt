@@ -36,7 +36,8 @@ found from none (r ∷ rs) n f h s g =
     (λ y. rw y (found from none rs n f h.1 (rw y at s) (rw y at g)))
     (cases_Bool (eqb n r.number))
 
-pub lawful_messages : {A : Type 0} (from : A → ℕ × Body) (none : A) (rs : List (Row A)) → is_some (find 0 rs) ≡ true → AllByRecursion (Again from) rs →
+pub lawful_messages : {A : Type 0} (from : A → ℕ × Body) (none : A) (rs : List (Row A)) → is_some (find 0 rs) ≡ true
+    → AllByRecursion (Again from) rs →
     Lawful (messages none rs from)
 lawful_messages from none rs zero-there again =
     lawful_via _ from (message rs) (lawful_both _ _ (lawful_byte _ zero-there) (λ n _. lawful_shaped (find n rs)))
@@ -208,7 +209,11 @@ one_or_none (x ∷ []) h = refl
 one_or_none (x ∷ (y ∷ l)) h = absurd (omega arith)
 
 pub two_place_option :
-    Is 2 true (Some 1) (λ f. record { numbers = first f ∷ second f ∷ 0 ∷ 0 ∷ []; place = f.place; list = option_to_list (slice_get f.list 0) })
+    Is 2 true (Some 1) (λ f. record {
+      numbers = first f ∷ second f ∷ 0 ∷ 0 ∷ [];
+      place = f.place;
+      list = option_to_list (slice_get f.list 0);
+    })
 two_place_option n f g =
     same_body n f _ _ _ (two_there f.numbers g.0.0) refl (one_or_none f.list (leb-true (length f.list) 1 g.0.1.1.0.0))
 

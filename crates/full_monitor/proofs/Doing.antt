@@ -78,7 +78,8 @@ module _ (m cs os : List ℕ) (q : Call) (f : fits q ≡ true) where
         Taken (system_checks m c) m (system_memory m os c) after r → system_reply m c ≡ done → cs ≡ system_pages cs os c →
         Does m cs os q a after cs
     done_does r a n d t x y =
-        system_does a n cs (d ∙ taken_done (system_checks m c) m (system_memory m os c) n r t ∙ ap (λ z. reply_unless z (failing (system_checks m c))) (sym x))
+        system_does a n cs (d ∙ taken_done (system_checks m c) m (system_memory m os c) n r t
+        ∙ ap (λ z. reply_unless z (failing (system_checks m c))) (sym x))
         (taken_leaves (system_checks m c) m (system_memory m os c) n r t)
         (same cs (failing (system_checks m c)) ∙ ap (λ z. unless z cs (failing (system_checks m c))) y)
 
@@ -86,7 +87,8 @@ module _ (m cs os : List ℕ) (q : Call) (f : fits q ≡ true) where
         Entered (system_checks m c) m t rs after r → system_reply m c ≡ enters (top_for m (thread_of m t)) rs →
         system_memory m os c ≡ running_put m (Some t) → cs ≡ system_pages cs os c → Does m cs os q a after cs
     entered_does t rs r a n d h x y z =
-        system_does a n cs (d ∙ entered_says (system_checks m c) m t rs n r h ∙ ap (λ b. reply_unless b (failing (system_checks m c))) (sym x))
+        system_does a n cs (d ∙ entered_says (system_checks m c) m t rs n r h
+        ∙ ap (λ b. reply_unless b (failing (system_checks m c))) (sym x))
         (entered_leaves (system_checks m c) m t rs n r h ∙ ap (λ b. unless b m (failing (system_checks m c))) (sym y))
         (same cs (failing (system_checks m c)) ∙ ap (λ b. unless b cs (failing (system_checks m c))) z)
 

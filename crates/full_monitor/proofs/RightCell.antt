@@ -124,7 +124,8 @@ module _ (l : Limits) (s : State) (k : Known l s) where
       by None e = refl
       by (Some j) e = reply_right j e c
 
-  unless_edits : (A : Type 0) (f : State → A) (es : List Edit) (o : Option ℕ) → unless (f (apply_all s es)) (f s) o ≡ f (apply_all s (edits_or es o))
+  unless_edits : (A : Type 0) (f : State → A) (es : List Edit) (o : Option ℕ)
+      → unless (f (apply_all s es)) (f s) o ≡ f (apply_all s (edits_or es o))
   unfolding edits_or
   unless_edits A f es None = refl
   unless_edits A f es (Some n) = refl
@@ -178,7 +179,8 @@ module _ (l : Limits) (s : State) (k : Known l s) where
 
     edits_unless : (A : Type 0) (f : State → A) (c : CellCall) (o : Option ℕ) →
         unless (f (apply_all s (caller_edits l s c (caller s)))) (f s) o
-        ≡ f (apply_all s (edits_or {A = Refusal} (changed l s (by_cell c)) (option_map (λ n. record { number = n; place = place (by_cell c) }) o)))
+        ≡ f (apply_all s (edits_or {A = Refusal} (changed l s (by_cell c))
+        (option_map (λ n. record { number = n; place = place (by_cell c) }) o)))
     unfolding edits_or changed
     edits_unless A f c None = refl
     edits_unless A f c (Some n) = refl

@@ -164,7 +164,8 @@ module _ (l : Limits) (s : State) (k : Known l s) (can : (n : ℕ) → l.can n �
 
   edits_unless : (A : Type 0) (f : State → A) (c : SystemCall) (o : Option ℕ) →
       unless (f (apply_all s (system_edits l s c))) (f s) o
-      ≡ f (apply_all s (edits_or {A = Refusal} (changed l s (by_system c)) (option_map (λ n. record { number = n; place = place (by_system c) }) o)))
+      ≡ f (apply_all s (edits_or {A = Refusal} (changed l s (by_system c))
+      (option_map (λ n. record { number = n; place = place (by_system c) }) o)))
   unfolding edits_or changed
   edits_unless A f c None = refl
   edits_unless A f c (Some n) = refl

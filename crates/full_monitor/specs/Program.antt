@@ -1,4 +1,5 @@
--- What the monitor's code does, as functions of its memory, of the words of closed and of open pages, and of a call: the rooms put together.
+-- What the monitor's code does, as functions of its memory, of the words of closed and of open pages, and of a call: the rooms put
+-- together.
 use Rattle.std.specs.Prelude.{◌≡◌, ℕ, Bool, true, false, not, ◌&&◌, List, [], ◌∷◌, is_some, Some, None, Option, slice_index}
 use Rattle.std.specs.Option.{unwrap_or}
 use Rattle.sha256.specs.Measures.{name_words}

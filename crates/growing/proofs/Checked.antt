@@ -78,7 +78,8 @@ module _ (l : Limits) (s : State) (k : Known l s) (j : Caller) (calls : caller s
       by true true e f g = absurd (grind (arith, g))
       by true false e f g =
           ap (λ z. closed_in z is p) (no_slot w.table w.slot (table_at s.entries j.cell w.table) refl (ltb-false _ _ f))
-      by false b e f g = ap (λ o. closed_in (slot_in s.entries o w.slot) is p) (no_table l s k j.cell its_cell.0 its_cell.1 live w.table (ltb-false _ _ e))
+      by false b e f g = ap (λ o. closed_in (slot_in s.entries o w.slot) is p)
+          (no_table l s k j.cell its_cell.0 its_cell.1 live w.table (ltb-false _ _ e))
 
   -- what is shown is in a table
   some_shown : (w : Place) (p : ℕ) (o : Option ℕ) →

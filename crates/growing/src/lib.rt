@@ -47,7 +47,9 @@ pub fn in_range(place: Place) -> bool
 // Whether a spare page of the caller may be held at a place; hands on the table that the place is in.
 fn may_grow(memory: &[u64], caller: Caller, page: u64, place: Place) -> Result<u64, Refusal>
     requires { (Sized memory.now) × (IsThere memory.now caller) }
-    ensures { Checked (grow_checks memory.now caller page (place_of place)) (λ table. (table ≡ unwrap_or (vacant memory.now caller.top (place_of place)) 0) × (table < slice_index memory.now 0) × (page < slice_index memory.now 0)
+    ensures { Checked (grow_checks memory.now caller page (place_of place))
+        (λ table. (table ≡ unwrap_or (vacant memory.now caller.top (place_of place)) 0) × (table < slice_index memory.now 0)
+        × (page < slice_index memory.now 0)
         × (place.slot < 1024)) result }
 {
     if !owns_spare(memory, caller, page) {
@@ -71,8 +73,10 @@ pub fn grow(
     place: Place,
 ) -> Result<(), Refusal>
     requires { (Sized memory.old) × ((IsThere memory.old caller) × (length closed.old ≡ slice_index memory.old 0 * 1024)) }
-    ensures memory { Taken (grow_checks memory.old caller page (place_of place)) memory.old (grown memory.old caller page (place_of place)) memory.new result }
-    ensures closed { Taken (grow_checks memory.old caller page (place_of place)) closed.old (grown_pages closed.old page) closed.new result }
+    ensures memory { Taken (grow_checks memory.old caller page (place_of place)) memory.old
+        (grown memory.old caller page (place_of place)) memory.new result }
+    ensures closed { Taken (grow_checks memory.old caller page (place_of place)) closed.old
+        (grown_pages closed.old page) closed.new result }
 {
     let table = may_grow(memory, caller, page, place)?;
     full_pages::zero_page(closed, page);
@@ -83,7 +87,9 @@ pub fn grow(
 // Whether a page of the caller is seen at a place; hands on the table that the place is in.
 fn may_shrink(memory: &[u64], caller: Caller, page: u64, place: Place) -> Result<u64, Refusal>
     requires { (Sized memory.now) × (IsThere memory.now caller) }
-    ensures { Checked (shrink_checks memory.now caller page (place_of place)) (λ table. (table ≡ unwrap_or (showing memory.now caller.top (place_of place) page) 0) × (table < slice_index memory.now 0) × (page < slice_index memory.now 0)
+    ensures { Checked (shrink_checks memory.now caller page (place_of place))
+        (λ table. (table ≡ unwrap_or (showing memory.now caller.top (place_of place) page) 0) × (table < slice_index memory.now 0)
+        × (page < slice_index memory.now 0)
         × (place.slot < 1024)) result }
 {
     if !holds(memory, caller, page) {
@@ -101,7 +107,8 @@ fn may_shrink(memory: &[u64], caller: Caller, page: u64, place: Place) -> Result
 // A page that the caller holds, and sees at a place, is spare, and seen no more.
 pub fn shrink(memory: &mut [u64], caller: Caller, page: u64, place: Place) -> Result<(), Refusal>
     requires { (Sized memory.old) × (IsThere memory.old caller) }
-    ensures { Taken (shrink_checks memory.old caller page (place_of place)) memory.old (shrunk memory.old caller page (place_of place)) memory.new result }
+    ensures { Taken (shrink_checks memory.old caller page (place_of place)) memory.old
+        (shrunk memory.old caller page (place_of place)) memory.new result }
 {
     let table = may_shrink(memory, caller, page, place)?;
     full_pages::put_slot(memory, table, place.slot, Slot::Nothing);

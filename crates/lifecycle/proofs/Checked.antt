@@ -39,6 +39,7 @@ module _ (l : Limits) (s : State) (k : Known l s) where
   unfolding system_checks
   remove_checked p =
       check _ _ _ _ _ (there_right l s k p) (λ _.
-      check _ _ _ _ _ (ap₂ (λ a b. not (a && b)) (ap look.is_first (record_right l s k p) ∙ first_shown (entry s p)) (parts_right l s k p)) (λ _.
+      check _ _ _ _ _ (ap₂ (λ a b. not (a && b)) (ap look.is_first (record_right l s k p) ∙ first_shown (entry s p))
+      (parts_right l s k p)) (λ _.
       check _ _ _ _ _ (ap (may_go (encode l s) p) (ap look.part_of (record_right l s k p) ∙ part_shown (entry s p))
       ∙ goes p (part_of (kind (entry s p)))) (λ _. refl)))

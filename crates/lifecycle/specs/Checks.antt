@@ -10,7 +10,8 @@ may_go m p (Some c) = is_stopped (cell_of m c) || (is_sealed (cell_of m c) && is
 
 abbrev pub remove_checks : List ℕ → ℕ → List Check
 remove_checks m p =
-    there m p else 3 ∷ not (is_first (record_of m p) && has_parts (slice_index m 0) m p) else 4 ∷ may_go m p (part_of (record_of m p)) else 10 ∷ []
+    there m p else 3 ∷ not (is_first (record_of m p) && has_parts (slice_index m 0) m p) else 4 ∷ may_go m p (part_of (record_of m p))
+    else 10 ∷ []
 
 abbrev pub seal_checks : List ℕ → ℕ → List Check
 seal_checks m c = is_some (cell_of m c) else 5 ∷ is_building (cell_of m c) else 6 ∷ []

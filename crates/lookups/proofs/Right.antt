@@ -320,7 +320,8 @@ module _ (l : Limits) (s : State) (k : Known l s) where
       owned_by t None h = refl
       owned_by t (Some c) h =
           let y = the_first (entry s c) (k.invariant.owned t c h) in
-          let q : look.cell_of (encode l s) c ≡ Some (shown_cell y.0) = cell_right c ∙ ap (λ x. option_map shown_cell (model.cell_in x)) y.1 in
+          let q : look.cell_of (encode l s) c ≡ Some (shown_cell y.0) = cell_right c
+          ∙ ap (λ x. option_map shown_cell (model.cell_in x)) y.1 in
           ap (look.caller_in t c) q ∙ ap (λ n. Some (record { thread = t; cell = c; top = n })) (sym (ap top_had y.1))
 
       by : (r : Option ℕ) → look.caller_of (encode l s) r ≡ option_map (shown_caller s) (state.caller_by s.entries r)
@@ -340,7 +341,8 @@ module _ (l : Limits) (s : State) (k : Known l s) where
   -- The same, by the number of a page that is a cell's first.
   pub cells_right : (c : ℕ) → is_some (look.cell_of (encode l s) c) ≡ cell_there l s c
   unfolding kind kind_number
-  cells_right c = ap is_some (cell_right c) ∙ some_cell (entry s c) ∙ only_there c (model.is_cell (entry s c)) (λ h. ap model.is_cell (past c h))
+  cells_right c = ap is_some (cell_right c) ∙ some_cell (entry s c)
+      ∙ only_there c (model.is_cell (entry s c)) (λ h. ap model.is_cell (past c h))
 
   pub freed_right : (p : ℕ) → look.is_free (record_of (encode l s) p) ≡ model.is_free (entry s p)
   freed_right p = ap look.is_free (record_right p) ∙ free_shown (entry s p)
@@ -370,7 +372,8 @@ module _ (l : Limits) (s : State) (k : Known l s) where
   pub threads_right : (t : ℕ) → is_some (look.thread_of (encode l s) t) ≡ thread_there l s t
   unfolding kind kind_number
   threads_right t =
-      ap is_some (thread_right t) ∙ some_thread (entry s t) ∙ only_there t (model.is_thread (entry s t)) (λ h. ap model.is_thread (past t h))
+      ap is_some (thread_right t) ∙ some_thread (entry s t)
+      ∙ only_there t (model.is_thread (entry s t)) (λ h. ap model.is_thread (past t h))
 
   -- The pages of one who calls.
   pub spares_right : (j : state.Caller) (p : ℕ) → look.is_part (look.spare_in (record_of (encode l s) p)) j.cell ≡ own_spare l s j p

@@ -108,7 +108,8 @@ module _ (rs : List ℕ) (h : seventeen rs ≡ true) (chance : ℕ) (drawn : wor
         (either Good (eqb k 7) _ _ (stored_good (address rs b c) (register rs a) (nth_word rs _ h) (look (address rs b c)))
         (either Good (eqb k 8) _ _ (set_good rs 16 _ h (order_word (register rs a) (register rs b)))
         (either Good (eqb k 9) _ _
-        (either Good (eqb a 0) _ _ (jump_good Always n) (either Good (eqb a 1) _ _ (jump_good Less n) (either Good (eqb a 2) _ _ (jump_good Equal n)
+        (either Good (eqb a 0) _ _ (jump_good Always n)
+        (either Good (eqb a 1) _ _ (jump_good Less n) (either Good (eqb a 2) _ _ (jump_good Equal n)
         (either Good (eqb a 3) _ _ (jump_good Greater n) (either Good (eqb a 4) _ _ (jump_good Unequal n) unknown_good)))))
         (either Good (eqb k 10) _ _ (set_good rs 15 _ h (nth_word rs _ h))
         (either Good (eqb k 11) _ _ (h, asked_good a) unknown_good))))))))))

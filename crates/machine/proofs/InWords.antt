@@ -52,7 +52,8 @@ module _ (l : Limits) (s : State) (k : Known l s) (c : ℕ) (y : model.Cell) (e 
   slot_for_right a = by (ltb (table_number a) 256) refl
     where
       by : (b : Bool) → ltb (table_number a) 256 ≡ b →
-          cond b (slot_by (encode l s) (slot_number a) (look.table_of (encode l s) y.top (table_number a))) nothing ≡ processor.slot_for s c a
+          cond b (slot_by (encode l s) (slot_number a) (look.table_of (encode l s) y.top (table_number a))) nothing
+          ≡ processor.slot_for s c a
       by true h =
           ap (slot_by (encode l s) (slot_number a)) (table_right l s k c y e live (table_number a) (ltb-true _ _ h))
           ∙ by_right (table_number a) (slot_number a) (table_at s.entries c (table_number a)) (omega arith) refl

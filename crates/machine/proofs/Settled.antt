@@ -52,7 +52,8 @@ fetched_settled unseen rs look chance = refl
 fetched_settled (seen w true v) rs look chance = executed_settled (decoded v) (set rs 15 (low (get_or rs 15 0 + 4))) look chance
 fetched_settled (seen w false v) rs look chance = refl
 
-by : {A : Type 0} (m : Memory A) (go : List ℕ → A → Came A) → ((qs : List ℕ) (b : A) → ended_by (go qs b).registers (go qs b).ends ≡ (go qs b).ends) →
+by : {A : Type 0} (m : Memory A) (go : List ℕ → A → Came A)
+    → ((qs : List ℕ) (b : A) → ended_by (go qs b).registers (go qs b).ends ≡ (go qs b).ends) →
     (a : A) (s : Step) → Settled s → ended_by (then m go a s).registers (then m go a s).ends ≡ (then m go a s).ends
 unfolding then
 by m go h a (moves qs) k = h qs a

@@ -49,8 +49,10 @@ holds Unequal o = not (o == 1)
 -- The kinds of faults: what is there can't be run, nothing is seen there, it may not be written, no instruction, no call.
 abbrev pub asked : ℕ → List ℕ → ℕ → CellCall
 asked k rs chance =
-    cond (k == 20) (leave (slice_index rs 0)) (cond (k == 22) (fault (slice_index rs 0)) (cond (k == 23) (grow (slice_index rs 0) (place_from (slice_index rs 1)))
-    (cond (k == 24) (shrink (slice_index rs 0) (place_from (slice_index rs 1))) (cond (k == 25) (extend (slice_index rs 0) (slice_index rs 1))
+    cond (k == 20) (leave (slice_index rs 0)) (cond (k == 22) (fault (slice_index rs 0))
+    (cond (k == 23) (grow (slice_index rs 0) (place_from (slice_index rs 1)))
+    (cond (k == 24) (shrink (slice_index rs 0) (place_from (slice_index rs 1)))
+    (cond (k == 25) (extend (slice_index rs 0) (slice_index rs 1))
     (cond (k == 26) who (cond (k == 27) (draw chance) (fault 5)))))))
 
 -- an address: a register, and words behind it

@@ -159,7 +159,8 @@ fn execute(
     requires fit { Fit memory.now top }
     requires closed_len { (length closed.old ≡ slice_index memory.now 0 * 1024) × (length «open».old ≡ slice_index memory.now 1 * 1024) }
     ensures { Comes memory.now top (record { closed_pages = closed.old; open_pages = «open».old })
-        (record { closed_pages = closed.new; open_pages = «open».new }) (executed instruction registers.words (looked memory.now top closed.old «open».old) chance) result }
+        (record { closed_pages = closed.new; open_pages = «open».new })
+        (executed instruction registers.words (looked memory.now top closed.old «open».old) chance) result }
 {
     match instruction {
         Instruction::Unknown => faults(registers, 4),
@@ -222,7 +223,8 @@ fn step(
     requires fit { Fit memory.now top }
     requires closed_len { (length closed.old ≡ slice_index memory.now 0 * 1024) × (length «open».old ≡ slice_index memory.now 1 * 1024) }
     ensures { Comes memory.now top (record { closed_pages = closed.old; open_pages = «open».old })
-        (record { closed_pages = closed.new; open_pages = «open».new }) (made_up registers.words (looked memory.now top closed.old «open».old) chance) result }
+        (record { closed_pages = closed.new; open_pages = «open».new })
+        (made_up registers.words (looked memory.now top closed.old «open».old) chance) result }
 {
     let at = registers.words[15];
     match look(memory, closed, open, top, at) {
@@ -268,8 +270,10 @@ fn go(
     }
 }
 
-// Runs the thread that has these registers, by the tables of the cell whose top table is on a page, for so many steps at most, after which it
-// is interrupted. It works in place, on the lent words. REFINEMENT: where events made what is lent, it is the definitions' run of this machine.
+// Runs the thread that has these registers, by the tables of the cell whose top table is on a page, for so many steps at most, after
+// which it
+// is interrupted. It works in place, on the lent words. REFINEMENT: where events made what is lent, it is the definitions' run of this
+// machine.
 pub fn run(
     memory: &[u64],
     closed: &mut [u32],

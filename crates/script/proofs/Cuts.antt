@@ -87,7 +87,8 @@ module _ (text : List ℕ) (s : ℕ) (same : words (drop s text) ≡ words text)
   next_some start e is within stops some cut =
       let long : length start ≡ length text - s = ap length is ∙ length-drop s text in
       let pos : 0 < length start = omega (arith, eqb-false _ _ (sym some)) in
-      let first : get_or start 0 0 ≡ get_or text s 0 = ap (λ t. get_or t 0 0) is ∙ get_or-drop s text 0 0 ∙ ap (λ k. get_or text k 0) (add-zero s) in
+      let first : get_or start 0 0 ≡ get_or text s 0 = ap (λ t. get_or t 0 0) is ∙ get_or-drop s text 0 0
+      ∙ ap (λ k. get_or text k 0) (add-zero s) in
       let f = first_word start e pos (λ h. stops (omega arith) (sym first ∙ h)) cut in
       let z : e - 0 ≡ e = omega arith in
       let short : length (drop e start) ≡ length start - e = length-drop e start in

@@ -77,7 +77,8 @@ initial =
 -- 6.2.2, step 1: the word of the message schedule that comes after those in w
 abbrev pub next_word : List ℕ → ℕ
 next_word w =
-    σ₁ (slice_index w (length w - 2)) ⊞ slice_index_or w (length w - 7) 0 ⊞ σ₀ (slice_index w (length w - 15)) ⊞ slice_index_or w (length w - 16) 0
+    σ₁ (slice_index w (length w - 2)) ⊞ slice_index_or w (length w - 7) 0 ⊞ σ₀ (slice_index w (length w - 15)) ⊞ slice_index_or w
+    (length w - 16) 0
 
 -- w with n more words of the schedule behind
 unfoldable pub extended : ℕ → List ℕ → List ℕ

@@ -89,14 +89,16 @@ impl Session {
 
     // The words of an open page, if there is such a page.
     pub fn open_page(&self, page: u64) -> Option<&[u32]>
-        ensures { MatchOption result (length self.now.«open».items / 1024 ≤ page) (λ x. (page < length self.now.«open».items / 1024) × (x.now ≡ page_in self.now.«open».items page)) }
+        ensures { MatchOption result (length self.now.«open».items / 1024 ≤ page)
+            (λ x. (page < length self.now.«open».items / 1024) × (x.now ≡ page_in self.now.«open».items page)) }
     {
         pages::page(self.open.as_slice(), page)
     }
 
     // The words of a closed page, if there is such a page.
     pub fn closed_page(&self, page: u64) -> Option<&[u32]>
-        ensures { MatchOption result (length self.now.closed.items / 1024 ≤ page) (λ x. (page < length self.now.closed.items / 1024) × (x.now ≡ page_in self.now.closed.items page)) }
+        ensures { MatchOption result (length self.now.closed.items / 1024 ≤ page)
+            (λ x. (page < length self.now.closed.items / 1024) × (x.now ≡ page_in self.now.closed.items page)) }
     {
         pages::page(self.closed.as_slice(), page)
     }

@@ -16,6 +16,7 @@ returns c =
     let bs : List ℕ = c.args.self.now.bytes.now in (
       refl,
       padded_there n (drop at bs) (simp length-drop (omega arith))
-          ∙ ap (λ v. got v (drop (8 * n) (drop at bs))) (sym c.numbers_at-all.ensures) ∙ ap (got c.numbers_at-all.result) (drop-drop (8 * n) at bs),
+          ∙ ap (λ v. got v (drop (8 * n) (drop at bs))) (sym c.numbers_at-all.ensures)
+          ∙ ap (got c.numbers_at-all.result) (drop-drop (8 * n) at bs),
       omega arith,
     )
