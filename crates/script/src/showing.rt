@@ -6,9 +6,9 @@ ghost use Rattle.script.specs.Shown.{Adds, spaced, with_numbers, answer_text, tr
 
 use answers::Answer;
 use fields::Numbers;
-use std::alloc::AllocError;
+use std::fmt;
 
-fn show_numbers(numbers: Numbers<'_>, out: &mut String) -> Result<(), AllocError>
+fn show_numbers(numbers: Numbers<'_>, out: &mut String) -> fmt::Result
     ensures { Adds result (bytes_of out.old) (bytes_of out.new) (spaced (numbers_of numbers.entry)) }
 {
     for index in 0..numbers.len() {
@@ -20,7 +20,7 @@ fn show_numbers(numbers: Numbers<'_>, out: &mut String) -> Result<(), AllocError
     Ok(())
 }
 
-fn show_with(numbers: Numbers<'_>, out: &mut String) -> Result<(), AllocError>
+fn show_with(numbers: Numbers<'_>, out: &mut String) -> fmt::Result
     ensures { Adds result (bytes_of out.old) (bytes_of out.new) (with_numbers (numbers_of numbers.entry)) }
 {
     if numbers.len() == 0 {
@@ -31,27 +31,28 @@ fn show_with(numbers: Numbers<'_>, out: &mut String) -> Result<(), AllocError>
 }
 
 // Adds an answer's line, without its end, to a text.
-pub fn show_answer(answer: Answer<'_>, out: &mut String) -> Result<(), AllocError>
+pub fn show_answer(answer: Answer<'_>, out: &mut String) -> fmt::Result
     ensures { Adds result (bytes_of out.old) (bytes_of out.new) (answer_text (answer_of answer.entry)) }
 {
     match answer {
         Answer::Refused { refusal } => {
             let number = refusal.number;
             let place = refusal.place;
-            write!(out, "refused {number} at {place}")
+            write!(out, "refused {number} at {place}")?;
         }
-        Answer::Done => write!(out, "done"),
-        Answer::Number { number } => write!(out, "number {number}"),
+        Answer::Done => write!(out, "done")?,
+        Answer::Number { number } => write!(out, "number {number}")?,
         Answer::Enters { top, registers } => {
             write!(out, "enters {top}")?;
-            show_with(registers, out)
+            show_with(registers, out)?;
         }
         Answer::Told { error, numbers } => {
             write!(out, "told {error}")?;
-            show_with(numbers, out)
+            show_with(numbers, out)?;
         }
-        Answer::Left { how, number } => write!(out, "left {how} {number}"),
+        Answer::Left { how, number } => write!(out, "left {how} {number}")?,
     }
+    Ok(())
 }
 
 // How many words there are but for the zeros at the end.
@@ -65,7 +66,7 @@ fn used(words: &[u32]) -> usize
     count
 }
 
-fn show_words(words: &[u32], out: &mut String) -> Result<(), AllocError>
+fn show_words(words: &[u32], out: &mut String) -> fmt::Result
     ensures { Adds result (bytes_of out.old) (bytes_of out.new) (spaced words.now) }
 {
     for word in words {
@@ -74,18 +75,19 @@ fn show_words(words: &[u32], out: &mut String) -> Result<(), AllocError>
     Ok(())
 }
 
-fn show_name(open: bool, out: &mut String) -> Result<(), AllocError>
+fn show_name(open: bool, out: &mut String) -> fmt::Result
     ensures { Adds result (bytes_of out.old) (bytes_of out.new) (page_name «open») }
 {
     if open {
-        write!(out, "open ")
+        write!(out, "open ")?;
     } else {
-        write!(out, "closed ")
+        write!(out, "closed ")?;
     }
+    Ok(())
 }
 
 // Adds a page's line, without its end, to a text.
-pub fn show_page(open: bool, page: u64, words: &[u32], out: &mut String) -> Result<(), AllocError>
+pub fn show_page(open: bool, page: u64, words: &[u32], out: &mut String) -> fmt::Result
     ensures { Adds result (bytes_of out.old) (bytes_of out.new) (page_text «open» page words.now) }
 {
     show_name(open, out)?;
