@@ -1,5 +1,5 @@
 -- What stands between the number of a call or an answer and its end: numbers, then perhaps a place, then perhaps a list.
-use Rattle.std.specs.Prelude.{ℕ, ◌+◌, ◌-◌, ◌/◌, ◌%◌, Bool, true, false, cond, leb, List, [], ◌∷◌, ◌++◌, length, take, replicate, Some, None, Option, ◌==◌, nat_le, nat_lt, slice_index}
+use Rattle.std.specs.Prelude.{ℕ, ◌+◌, ◌-◌, ◌/◌, ◌%◌, Bool, true, false, cond, List, [], ◌∷◌, ◌++◌, length, take, replicate, Some, None, Option, ◌==◌, nat_le, nat_lt, slice_index}
 use Rattle.model.specs.Calls as model
 use Rattle.fields.specs.Bytes.{numbers_in}
 use Rattle.fields.specs.Codec.{Codec, nothing, byte, numbers, both, via}
@@ -45,7 +45,7 @@ origin = record { table = 0; slot = 0; write = false; run = false }
 
 -- a list: a byte that says how many numbers it has, at most so many, and these
 abbrev pub list : ℕ → Codec (List ℕ)
-list most = via (λ v. v.1) (λ ns. (length ns, ns)) (both (byte (λ b. leb b most)) numbers)
+list most = via (λ v. v.1) (λ ns. (length ns, ns)) (both (byte (λ b. nat_le b most)) numbers)
 
 abbrev pub place_if : Bool → Codec model.Place
 place_if true = place

@@ -101,8 +101,8 @@ fn reply(
 ) -> Result<Reply, Unwritten>
     requires { Lent memory.old closed.old «open».now }
     ensures { Runs «open».now (read_call bytes.now)
-        (record { memory = memory.entry.now; closed = closed.old; told = told.old })
-        (record { memory = memory.exit.now; closed = closed.new; told = told.new }) result }
+        (record { memory = memory.old; closed = closed.old; told = told.old })
+        (record { memory = memory.new; closed = closed.new; told = told.new }) result }
 {
     if told.len() < LONGEST {
         return Err(Unwritten::TooShort { needed: LONGEST });
@@ -125,11 +125,11 @@ pub fn call(
 ) -> Result<Reply, Unwritten>
     requires { Lent memory.old closed.old «open».now }
     ensures runs { Runs «open».now (read_call bytes.now)
-        (record { memory = memory.entry.now; closed = closed.old; told = told.old })
-        (record { memory = memory.exit.now; closed = closed.new; told = told.new }) result }
+        (record { memory = memory.old; closed = closed.old; told = told.old })
+        (record { memory = memory.new; closed = closed.new; told = told.new }) result }
     ensures refines { Refines «open».now (read_call bytes.now)
-        (record { memory = memory.entry.now; closed = closed.old; told = told.old })
-        (record { memory = memory.exit.now; closed = closed.new; told = told.new }) result }
+        (record { memory = memory.old; closed = closed.old; told = told.old })
+        (record { memory = memory.new; closed = closed.new; told = told.new }) result }
 {
     reply(memory, closed, open, bytes, told)
 }

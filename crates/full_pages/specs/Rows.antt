@@ -1,5 +1,5 @@
 -- Reads and writes of the memory, as a list of numbers.
-use Rattle.std.specs.Prelude.{◌≡◌, ℕ, ◌+◌, ◌*◌, ◌%◌, ◌≤◌, Bool, List, map, length, take, drop, replicate, Option, slice_index, slice_index_or, slice_set}
+use Rattle.std.specs.Prelude.{◌≡◌, ℕ, ◌+◌, ◌*◌, ◌%◌, ◌≤◌, Bool, List, map, length, take, drop, replicate, Option, slice_index, slice_set}
 use Rattle.model.specs.Pages.{Slot}
 use Rattle.full_pages.specs.Flat.{list_put}
 use Rattle.full_pages.specs.Packing.{bit, slot_number, slot_from, some_number, some_from}
@@ -14,8 +14,8 @@ HasPage m p = 256 + p * 2048 + 2048 ≤ length m
 -- it has a record for each closed page, and no more, and there are not too many pages
 pub record Sized (m : List ℕ) : Type 0 where
   pub long : length m ≡ 256 + slice_index m 0 * 2048
-  pub few : slice_index_or m 0 0 ≤ 4096
-  pub few_open : slice_index_or m 1 0 ≤ 1048576
+  pub few : slice_index m 0 ≤ 4096
+  pub few_open : slice_index m 1 ≤ 1048576
 
 -- so many closed and open pages, and zeros
 abbrev pub new_memory : ℕ → ℕ → List ℕ

@@ -66,8 +66,7 @@ abbrev pub chance_of : ℕ → ℕ → ℕ
 chance_of n drawn = n * 4294967296 + drawn
 
 -- REFINEMENT: where events made what is lent, and the top table is that of a cell which is not stopped, a run is the definitions' run of
--- that
--- machine: its registers, the call that ends it, and the words of closed and of open pages.
+-- that machine: its registers, the call that ends it, and the words of closed and of open pages.
 pub record RunIs (w : World) (c chance : ℕ) (after : Words) (r : Ran) : Type 0 where
   pub registers : r.registers.words ≡ (ran made_up_machine w c chance).registers
   pub ends : call_of r.ends ≡ by_cell (ending made_up_machine w c chance)

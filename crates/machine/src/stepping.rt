@@ -271,9 +271,8 @@ fn go(
 }
 
 // Runs the thread that has these registers, by the tables of the cell whose top table is on a page, for so many steps at most, after
-// which it
-// is interrupted. It works in place, on the lent words. REFINEMENT: where events made what is lent, it is the definitions' run of this
-// machine.
+// which it is interrupted. It works in place, on the lent words. REFINEMENT: where events made what is lent, it is the definitions'
+// run of this machine.
 pub fn run(
     memory: &[u64],
     closed: &mut [u32],

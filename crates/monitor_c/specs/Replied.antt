@@ -1,5 +1,5 @@
 -- What a caller in C gets: any slices may come.
-use Rattle.std.specs.Prelude.{◌≡◌, Bool, true, false, ◌&&◌, List, ◌++◌, ℕ, ◌+◌, ◌*◌, eqb, leb, length, get_or, drop}
+use Rattle.std.specs.Prelude.{◌≡◌, Bool, true, false, ◌&&◌, List, ◌++◌, ℕ, ◌+◌, ◌*◌, ◌==◌, nat_le, length, slice_index, drop}
 use Rattle.model.specs.Calls.{Call}
 use Rattle.model.specs.Answers.{to_system}
 use Rattle.answers.specs.Table.{write_answer}
@@ -11,8 +11,11 @@ use Rattle.full_monitor.specs.Called.{Slices}
 -- whether the memory has its header, and the slices are as long as that says, with room for what the system is told
 abbrev pub fits : List ℕ → List ℕ → List ℕ → List ℕ → Bool
 fits m cs os told =
-    leb 256 (length m) && (leb (get_or m 0 0) 4096 && (leb (get_or m 1 0) 1048576 && (eqb (length m) (256 + get_or m 0 0 * 2048)
-    && (eqb (length cs) (get_or m 0 0 * 1024) && (eqb (length os) (get_or m 1 0 * 1024) && leb 17 (length told))))))
+    nat_le 256 (length m)
+    && (nat_le (slice_index m 0) 4096
+    && (nat_le (slice_index m 1) 1048576
+    && (length m == 256 + slice_index m 0 * 2048
+    && (length cs == slice_index m 0 * 1024 && (length os == slice_index m 1 * 1024 && nat_le 17 (length told))))))
 
 -- Slices that don't fit: 0, and nothing is changed. Others: how many bytes the system is told, and what the program leaves.
 abbrev pub Replied : Bool → List ℕ → Call → Slices → Slices → ℕ → Type 0

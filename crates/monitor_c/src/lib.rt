@@ -54,9 +54,9 @@ pub extern "C" fn monitor_call(
     bytes: &[u8],
     told: &mut [u8],
 ) -> usize
-    ensures { Replied (fits memory.entry.now closed.old «open».now told.old) «open».now (read_call bytes.now)
-        (record { memory = memory.entry.now; closed = closed.old; told = told.old })
-        (record { memory = memory.exit.now; closed = closed.new; told = told.new }) result }
+    ensures { Replied (fits memory.old closed.old «open».now told.old) «open».now (read_call bytes.now)
+        (record { memory = memory.old; closed = closed.old; told = told.old })
+        (record { memory = memory.new; closed = closed.new; told = told.new }) result }
 {
     if !fits(memory, closed, open, told) {
         return 0;

@@ -1,5 +1,5 @@
 -- Reads and writes of the memory, as a list of numbers.
-use Rattle.std.specs.Prelude.{◌≡◌, ℕ, ◌+◌, ◌*◌, ◌%◌, ◌≤◌, Bool, List, map, length, take, drop, replicate, Option, slice_index, slice_index_or, slice_set}
+use Rattle.std.specs.Prelude.{◌≡◌, ℕ, ◌+◌, ◌*◌, ◌%◌, ◌≤◌, Bool, List, map, length, take, drop, replicate, Option, slice_index, slice_set}
 use Rattle.model.specs.Pages.{Slot}
 use Rattle.pages.specs.Flat.{list_put}
 use Rattle.pages.specs.Packing.{bit, slot_number, slot_from, some_number, some_from}
@@ -14,7 +14,7 @@ HasPage m p = 256 + p * 2048 + 2048 ≤ length m
 -- it has a record for each closed page, and no more
 pub record Sized (m : List ℕ) : Type 0 where
   pub long : length m ≡ 256 + slice_index m 0 * 2048
-  pub few : slice_index_or m 0 0 ≤ 4096
+  pub few : slice_index m 0 ≤ 4096
 
 -- so many closed and open pages, and zeros
 abbrev pub new_memory : ℕ → ℕ → List ℕ

@@ -8,11 +8,10 @@ use options::{Options, Source};
 use player::{Ended, Prints, play};
 use std::fs;
 
-const HELP: &str =
-    "run_calls: plays a file of calls to the monitor, and prints what each is answered
+const HELP: &str = "run_full: plays a file of calls to the monitor, and prints what each is answered
 
-usage: run_calls [--system] [--echo] FILE
-       run_calls --help
+usage: run_full [--system] [--echo] FILE
+       run_full --help
 
 FILE is a path, or - for standard input. Its first line that isn't empty or a comment is
 'limits CLOSED OPEN'; then each line is a call, as 'new cell 0 top 1', or one of 'write open',
@@ -34,16 +33,16 @@ fn complain(rt: &HostRuntime, name: &str, ended: Ended) -> Result<(), Failed> {
     let said = match ended {
         Ended::Well => return Ok(()),
         Ended::NoLimits { line } => eprintln!(rt;
-            "run_calls: {name}: line {line}: expected 'limits CLOSED OPEN'"
+            "run_full: {name}: line {line}: expected 'limits CLOSED OPEN'"
         ),
         Ended::Limits { line, closed, open } => eprintln!(rt;
-            "run_calls: {name}: line {line}: limits {closed} {open} are out of range: expected 2 to 4096 closed pages,
+            "run_full: {name}: line {line}: limits {closed} {open} are out of range: expected 2 to 4096 closed pages,
                 and at most 1048576 open ones"
         ),
         Ended::NoMemory { line } => eprintln!(rt;
-            "run_calls: {name}: line {line}: not enough memory for so many pages"
+            "run_full: {name}: line {line}: not enough memory for so many pages"
         ),
-        Ended::Io(error) => eprintln!(rt; "run_calls: {name}: {error}"),
+        Ended::Io(error) => eprintln!(rt; "run_full: {name}: {error}"),
     };
     let _ = said;
     Err(Failed)
@@ -54,7 +53,7 @@ fn main(rt: HostRuntime) -> Result<(), Failed> {
     let options = match options::read(&rt) {
         Ok(options) => options,
         Err(said) => {
-            let _ = eprintln!(rt; "run_calls: {said}; try 'run_calls --help'");
+            let _ = eprintln!(rt; "run_full: {said}; try 'run_full --help'");
             return Err(Failed);
         }
     };
@@ -77,7 +76,7 @@ fn main(rt: HostRuntime) -> Result<(), Failed> {
         Source::File(path) => match fs::open(&rt, path.as_str()) {
             Ok(file) => complain(&rt, path.as_str(), play(heap, file, rt.stdout(), prints)),
             Err(error) => {
-                let _ = eprintln!(rt; "run_calls: {path}: {error}");
+                let _ = eprintln!(rt; "run_full: {path}: {error}");
                 Err(Failed)
             }
         },

@@ -121,8 +121,8 @@ Carries (Call n) = (t : Taken) → Small t → Carried (call_with n (taken_body 
 Carries HoldFrom = Unit {0}
 Carries Interrupt = Unit {0}
 Carries Limits = Unit {0}
-Carries (Write open-page) = Unit {0}
-Carries (Print open-page) = Unit {0}
+Carries (Write open_page) = Unit {0}
+Carries (Print open_page) = Unit {0}
 
 none : 0 < 2 ^ 64
 none = omega arith
@@ -294,10 +294,10 @@ meant_carries Interrupt t ws c h s e =
     let a = at_most_some 255 (each number_of ws) m.0 m.1 in
     subst Carried (same_call _ c m.2) (interrupt_carries m.0 (each_small ws m.0 a.0) a.1)
 meant_carries Limits t ws c h s e = other _ _ c refl (alone_some _ _ ws e)
-meant_carries (Write open-page) t ws c h s e =
-    let m = mapped_some (λ ns. line.write open-page (nth_number t 0) ns) (at_most 1024 (each word_of ws)) (line.call c) e in other _ _ c
+meant_carries (Write open_page) t ws c h s e =
+    let m = mapped_some (λ ns. line.write open_page (nth_number t 0) ns) (at_most 1024 (each word_of ws)) (line.call c) e in other _ _ c
     refl m.2
-meant_carries (Print open-page) t ws c h s e = other _ _ c refl (alone_some _ _ ws e)
+meant_carries (Print open_page) t ws c h s e = other _ _ c refl (alone_some _ _ ws e)
 
 as_carries : (f : Form) (ws : List (List ℕ)) (c : model.Call) → Carries f.kind → as_form f ws ≡ Some (line.call c) → Carried c
 unfolding as_form

@@ -1,6 +1,6 @@
 -- SHA-256 as FIPS 180-4 has it, on numbers. A byte is a number below 256, a word one below 2 ^ 32.
 -- Numbers of sections are the standard's. These are definitions: they assume nothing.
-use Rattle.std.specs.Prelude.{ℕ, zero, suc, ◌+◌, ◌-◌, ◌*◌, ◌/◌, ◌%◌, ◌^◌, List, [], ◌∷◌, ◌++◌, length, take, drop, replicate, bit_and, bit_or, bit_xor, slice_index, slice_index_or}
+use Rattle.std.specs.Prelude.{ℕ, zero, suc, ◌+◌, ◌-◌, ◌*◌, ◌/◌, ◌%◌, ◌^◌, List, [], ◌∷◌, ◌++◌, length, take, drop, replicate, bit_and, bit_or, bit_xor, slice_index}
 
 infixl 6 ◌⊞◌
 -- 3.2: the sum of two words, modulo 2 ^ 32
@@ -77,8 +77,7 @@ initial =
 -- 6.2.2, step 1: the word of the message schedule that comes after those in w
 abbrev pub next_word : List ℕ → ℕ
 next_word w =
-    σ₁ (slice_index w (length w - 2)) ⊞ slice_index_or w (length w - 7) 0 ⊞ σ₀ (slice_index w (length w - 15)) ⊞ slice_index_or w
-    (length w - 16) 0
+    σ₁ (slice_index w (length w - 2)) ⊞ slice_index w (length w - 7) ⊞ σ₀ (slice_index w (length w - 15)) ⊞ slice_index w (length w - 16)
 
 -- w with n more words of the schedule behind
 unfoldable pub extended : ℕ → List ℕ → List ℕ
