@@ -1,6 +1,6 @@
 // The six functions of FIPS 180-4, section 4.1.2, on words of 32 bits.
-ghost use Rattle.std.specs.Prelude.{◌≡◌, ◌<◌, map};
-ghost use Rattle.sha256.specs.Sha.{rotr, ch, maj, Σ₀, Σ₁, σ₀, σ₁};
+ghost use Rattle.std.specs.Prelude.{◌≡◌, ◌<◌, map, bit_xor};
+ghost use Rattle.sha256.specs.Sha.{rotr, shr, ch, maj};
 
 use std::simd::prelude::*;
 
@@ -18,29 +18,24 @@ pub fn majority(x: u32, y: u32, z: u32) -> u32
     y ^ ((x ^ y) & (y ^ z))
 }
 
-pub fn big_sigma0(x: u32) -> u32
-    ensures { result ≡ Σ₀ x }
+// Σ₀ and Σ₁, which are this at other numbers: a word, rotated to the right by each of them.
+pub fn big_sigma<const A: u32, const B: u32, const C: u32>(x: u32) -> u32
+    requires a { (0 < A) × (A < 32) }
+    requires b { (0 < B) × (B < 32) }
+    requires c { (0 < C) × (C < 32) }
+    ensures { result ≡ bit_xor (bit_xor (rotr A x) (rotr B x)) (rotr C x) }
 {
-    x.rotate_right(2) ^ x.rotate_right(13) ^ x.rotate_right(22)
+    x.rotate_right(A) ^ x.rotate_right(B) ^ x.rotate_right(C)
 }
 
-pub fn big_sigma1(x: u32) -> u32
-    ensures { result ≡ Σ₁ x }
+// σ₀ and σ₁, those of the message schedule, on four words at a time: each is rotated by A and by B, and shifted by C.
+pub fn small_sigma<const A: u32, const B: u32, const C: u32>(x: u32x4) -> u32x4
+    requires a { (0 < A) × (A < 32) }
+    requires b { (0 < B) × (B < 32) }
+    requires c { C < 32 }
+    ensures { result ≡ map (λ w. bit_xor (bit_xor (rotr A w) (rotr B w)) (shr C w)) x }
 {
-    x.rotate_right(6) ^ x.rotate_right(11) ^ x.rotate_right(25)
-}
-
-// The small sigmas are those of the message schedule, on four words at a time.
-pub fn small_sigma0(x: u32x4) -> u32x4
-    ensures { result ≡ map σ₀ x }
-{
-    rotate_right(x, 7) ^ rotate_right(x, 18) ^ (x >> u32x4::splat(3))
-}
-
-pub fn small_sigma1(x: u32x4) -> u32x4
-    ensures { result ≡ map σ₁ x }
-{
-    rotate_right(x, 17) ^ rotate_right(x, 19) ^ (x >> u32x4::splat(10))
+    rotate_right(x, A) ^ rotate_right(x, B) ^ (x >> u32x4::splat(C))
 }
 
 // Each of four words, rotated to the right.

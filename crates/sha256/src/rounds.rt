@@ -5,7 +5,7 @@ ghost use Rattle.sha256.specs.Window.{state_of, words_in, next_four, outcome};
 
 use crate::Hash;
 use crate::constants::K;
-use crate::functions::{big_sigma0, big_sigma1, choose, majority, small_sigma0, small_sigma1};
+use crate::functions::{big_sigma, choose, majority, small_sigma};
 use std::simd::prelude::*;
 
 // Sixteen words of the message schedule, the oldest first, in vectors of four that are named by their first.
@@ -30,10 +30,10 @@ fn one_round(s: Hash, kw: u32) -> Hash
 {
     let t1 = s
         .h
-        .wrapping_add(big_sigma1(s.e))
+        .wrapping_add(big_sigma::<6, 11, 25>(s.e))
         .wrapping_add(choose(s.e, s.f, s.g))
         .wrapping_add(kw);
-    let t2 = big_sigma0(s.a).wrapping_add(majority(s.a, s.b, s.c));
+    let t2 = big_sigma::<2, 13, 22>(s.a).wrapping_add(majority(s.a, s.b, s.c));
     Hash {
         a: t1.wrapping_add(t2),
         b: s.a,
@@ -52,9 +52,9 @@ fn next_words(w: Window) -> u32x4
 {
     let from_1 = w.w0.shuffle(w.w4, [1, 2, 3, 4]);
     let from_9 = w.w8.shuffle(w.w12, [1, 2, 3, 4]);
-    let sums = w.w0 + small_sigma0(from_1) + from_9;
-    let first = sums + small_sigma1(w.w12.swizzle([2, 3, 2, 3]));
-    let last = sums + small_sigma1(first.swizzle([0, 1, 0, 1]));
+    let sums = w.w0 + small_sigma::<7, 18, 3>(from_1) + from_9;
+    let first = sums + small_sigma::<17, 19, 10>(w.w12.swizzle([2, 3, 2, 3]));
+    let last = sums + small_sigma::<17, 19, 10>(first.swizzle([0, 1, 0, 1]));
     first.shuffle(last, [0, 1, 6, 7])
 }
 

@@ -6,4 +6,4 @@ pub returns : goal.returns
 returns c =
     let w = c.args.w in
     next_is w.w0 w.w4 w.w8 w.w12 _ _ _ (omega arith) (omega arith) (omega arith) (omega arith)
-    c.small_sigma0.ensures c.small_sigma1.ensures c.small_sigma1-2.ensures
+    c.small_sigma.ensures c.small_sigma-2.ensures c.small_sigma-3.ensures
