@@ -5,11 +5,11 @@ use Rattle.sha256.specs.Words.{bytes_of, words_of, blocks_hashed, last_words}
 use Rattle.sha256.specs.Window.{hash_of}
 use Rattle.sha256.specs.Measures.{Measures, more_measured, name_words}
 use Rattle.sha256.specs.declared.Measure.{Measure}
-use Rattle.sha256.proofs.Message.{no_blocks, blocks_append, sha256_blocks, counted_words}
+use Rattle.sha256.proofs.Message.{no_block, blocks_append, sha256_blocks, counted_words}
 
 -- no words yet
 pub none_measured : Measures (record { hash = hash_of initial; blocks = 0 }) []
-none_measured = record { blocks = 0; whole = refl; counted = refl; state = sym (no_blocks initial []) }
+none_measured = record { blocks = 0; whole = refl; counted = refl; state = sym (no_block initial [] (omega arith)) }
 
 -- whole blocks of words more
 pub more_measures : (k : Measure) (ws xs : List ℕ) → Measures k ws → length xs % 16 ≡ 0 → Measures (more_measured k xs) (ws ++ xs)

@@ -77,8 +77,8 @@ pub fn compress_blocks(hash: Hash, words: &[u32]) -> Hash
     ensures { state_of result ≡ blocks_hashed (length words.now / 16) (state_of hash) words.now }
 {
     let mut after = hash;
-    for i in 0..words.len() / 16 {
-        after = compress(after, &words[16 * i..16 * i + 16]);
+    for block in words.chunks_exact(16) {
+        after = compress(after, block);
     }
     after
 }

@@ -102,8 +102,8 @@ pub fn compress_words(hash: Hash, block: Window) -> Hash
         hash,
         window: block,
     };
-    for i in 0..16usize {
-        work = four_rounds(work, u32x4::from_slice(&K[4 * i..4 * i + 4]));
+    for k in K.chunks_exact(4) {
+        work = four_rounds(work, u32x4::from_slice(k));
     }
     sum(hash, work.hash)
 }
