@@ -16,7 +16,7 @@ use rounds::{Window, compress_words};
 use std::simd::prelude::*;
 
 // A hash value: the eight words of FIPS 180-4, section 6.2.
-#[derive(Clone, Copy)]
+#[derive(Clone, Copy, Debug, PartialEq, Eq)]
 #[repr(C)]
 pub struct Hash {
     pub a: u32,
@@ -46,16 +46,10 @@ pub fn start() -> Hash
 }
 
 // The words of a quarter of a block as the standard reads them, the high byte first.
-fn quarter_words(part: &[u32]) -> u32x4
-    requires { length part.now ≡ 4 }
-    ensures { result ≡ map swapped part.now }
+fn quarter_words(quarter: [u32; 4]) -> u32x4
+    ensures { result ≡ map swapped quarter }
 {
-    u32x4::from_array([
-        part[0].swap_bytes(),
-        part[1].swap_bytes(),
-        part[2].swap_bytes(),
-        part[3].swap_bytes(),
-    ])
+    u32x4::from_array(quarter.map(u32::swap_bytes))
 }
 
 // The hash value after one more block.
@@ -63,11 +57,12 @@ pub fn compress(hash: Hash, block: &[u32]) -> Hash
     requires { length block.now ≡ 16 }
     ensures { state_of result ≡ block_hashed (state_of hash) block.now }
 {
+    let (quarters, _) = block.as_chunks::<4>();
     let words = Window {
-        w0: quarter_words(&block[0..4]),
-        w4: quarter_words(&block[4..8]),
-        w8: quarter_words(&block[8..12]),
-        w12: quarter_words(&block[12..16]),
+        w0: quarter_words(quarters[0]),
+        w4: quarter_words(quarters[1]),
+        w8: quarter_words(quarters[2]),
+        w12: quarter_words(quarters[3]),
     };
     compress_words(hash, words)
 }
@@ -101,16 +96,17 @@ fn padding(blocks: u64) -> [u32; 16]
 fn digest_words(hash: Hash) -> [u32; 8]
     ensures { result ≡ words_of (digest (state_of hash)) }
 {
-    [
-        hash.a.swap_bytes(),
-        hash.b.swap_bytes(),
-        hash.c.swap_bytes(),
-        hash.d.swap_bytes(),
-        hash.e.swap_bytes(),
-        hash.f.swap_bytes(),
-        hash.g.swap_bytes(),
-        hash.h.swap_bytes(),
-    ]
+    let Hash {
+        a,
+        b,
+        c,
+        d,
+        e,
+        f,
+        g,
+        h,
+    } = hash;
+    [a, b, c, d, e, f, g, h].map(u32::swap_bytes)
 }
 
 // The digest of a message of whole blocks, from the hash value after them and their number, as eight words, the low byte of
@@ -123,7 +119,7 @@ pub fn finish(hash: Hash, blocks: u64) -> [u32; 8]
 }
 
 // What was measured so far: the hash value after it, and the number of its blocks, of which the low 64 bits are kept.
-#[derive(Clone, Copy)]
+#[derive(Clone, Copy, Debug, PartialEq, Eq)]
 #[repr(C)]
 pub struct Measure {
     pub hash: Hash,

@@ -17,7 +17,7 @@ returns c =
     let h4 : length block.w4 ≡ 4 = omega arith in
     let h8 : length block.w8 ≡ 4 = omega arith in
     let h12 : length block.w12 ≡ 4 = omega arith in
-    let sixteen : length (words_in block) ≡ 16 = 
+    let sixteen : length (words_in block) ≡ 16 =
     omega (
       arith,
       length-append block.w0 (block.w4 ++ (block.w8 ++ block.w12)),
