@@ -2,11 +2,11 @@
 // Words are four bytes, the low one first, where they are hashed.
 #![tactic(auto)]
 
-ghost use Rattle.std.specs.Prelude.{◌≡◌, ℕ, ◌*◌, ◌/◌, ◌%◌, List, [], ◌++◌, map, length};
+ghost use Rattle.std.specs.Prelude.{◌≡◌, ℕ, ◌*◌, ◌/◌, ◌%◌, List, [], ◌∷◌, ◌++◌, map, length};
 ghost use Rattle.sha256.specs.Sha.{initial, digest, sha256};
 ghost use Rattle.sha256.specs.Words.{bytes_of, words_of, swapped, block_hashed, blocks_hashed, last_words, two_words};
 ghost use Rattle.sha256.specs.Window.{state_of, hash_of};
-ghost use Rattle.sha256.specs.Measures.{Hashes, Measures, more_measured, name_words};
+ghost use Rattle.sha256.specs.Measures.{Measures, more_measured, name_words};
 
 mod constants;
 mod functions;
@@ -27,6 +27,17 @@ pub struct Hash {
     pub f: u32,
     pub g: u32,
     pub h: u32,
+}
+
+// The eight words of a hash value, in the standard's order.
+impl From<Hash> for [u32; 8] {
+    ghost from_gives = { λ hash words. words ≡ hash.a ∷ hash.b ∷ hash.c ∷ hash.d ∷ hash.e ∷ hash.f ∷ hash.g ∷ hash.h ∷ [] };
+
+    fn from(hash: Hash) -> [u32; 8] {
+        [
+            hash.a, hash.b, hash.c, hash.d, hash.e, hash.f, hash.g, hash.h,
+        ]
+    }
 }
 
 // The initial hash value, of section 5.3.3.
@@ -96,26 +107,7 @@ fn padding(blocks: u64) -> [u32; 16]
 fn digest_words(hash: Hash) -> [u32; 8]
     ensures { result ≡ words_of (digest (state_of hash)) }
 {
-    let Hash {
-        a,
-        b,
-        c,
-        d,
-        e,
-        f,
-        g,
-        h,
-    } = hash;
-    [a, b, c, d, e, f, g, h].map(u32::swap_bytes)
-}
-
-// The digest of a message of whole blocks, from the hash value after them and their number, as eight words, the low byte of
-// each first. A message with up to thirteen words behind its blocks needs another last block, and nothing else.
-pub fn finish(hash: Hash, blocks: u64) -> [u32; 8]
-    ensures history { (ws : List ℕ) → Hashes hash blocks ws → result ≡ words_of (sha256 (bytes_of ws)) }
-    ensures value { result ≡ name_words (record { hash = hash; blocks = blocks }) }
-{
-    digest_words(compress_blocks(hash, &padding(blocks)))
+    <[u32; 8]>::from(hash).map(u32::swap_bytes)
 }
 
 // What was measured so far: the hash value after it, and the number of its blocks, of which the low 64 bits are kept.
@@ -139,7 +131,7 @@ impl Measure {
     }
 
     // Whole blocks of words more.
-    fn extend(self, words: &[u32]) -> Measure
+    pub fn extend(self, words: &[u32]) -> Measure
         requires { length words.now % 16 ≡ 0 }
         ensures history { (ws : List ℕ) → Measures self ws → Measures result (ws ++ words.now) }
         ensures value { result ≡ more_measured self words.now }
@@ -148,15 +140,6 @@ impl Measure {
             hash: compress_blocks(self.hash, words),
             blocks: self.blocks.wrapping_add(words.len() as u64 / 16),
         }
-    }
-
-    // Sixteen words more.
-    pub fn block(self, block: &[u32]) -> Measure
-        requires { length block.now ≡ 16 }
-        ensures history { (ws : List ℕ) → Measures self ws → Measures result (ws ++ block.now) }
-        ensures value { result ≡ more_measured self block.now }
-    {
-        self.extend(block)
     }
 
     // Two words more, filled with zeros to sixteen.
@@ -170,20 +153,12 @@ impl Measure {
         self.extend(&block)
     }
 
-    // The 1,024 words of a page more.
-    pub fn page(self, page: &[u32]) -> Measure
-        requires { length page.now ≡ 1024 }
-        ensures history { (ws : List ℕ) → Measures self ws → Measures result (ws ++ page.now) }
-        ensures value { result ≡ more_measured self page.now }
-    {
-        self.extend(page)
-    }
-
-    // The name of what was measured: its digest, as eight words, the low byte of each first.
+    // The name of what was measured: its digest, as eight words, the low byte of each first. A message with up to thirteen words
+    // behind its blocks needs another last block, and nothing else.
     pub fn name(self) -> [u32; 8]
         ensures history { (ws : List ℕ) → Measures self ws → result ≡ words_of (sha256 (bytes_of ws)) }
         ensures value { result ≡ name_words self }
     {
-        finish(self.hash, self.blocks)
+        digest_words(compress_blocks(self.hash, &padding(self.blocks)))
     }
 }

@@ -79,6 +79,7 @@ fn four_rounds(work: Work, k: u32x4) -> Work
     }
 }
 
+// The sum of two hash values, field by field: by way of arrays it would name the eight fields as often, and need a loop.
 fn sum(s: Hash, t: Hash) -> Hash
     ensures { state_of result ≡ added (state_of s) (state_of t) }
 {

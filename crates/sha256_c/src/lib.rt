@@ -1,4 +1,5 @@
-// Measures for callers in C: a static library with the calls that a measurement of pages makes.
+// Measures for callers in C: a static library with the calls that a measurement of pages makes. C has no Result, so a call that
+// may be refused returns a bool.
 #![tactic(auto)]
 
 ghost use Rattle.std.specs.Prelude.{◌≡◌, List, [], ◌++◌, true, false, ℕ, ◌==◌, length};
@@ -27,7 +28,7 @@ pub extern "C" fn sha256_page(measure: &mut Measure, page: &[u32]) -> bool
     if page.len() != 1024 {
         return false;
     }
-    *measure = measure.page(page);
+    *measure = measure.extend(page);
     true
 }
 

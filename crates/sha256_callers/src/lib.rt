@@ -16,7 +16,7 @@ pub fn page_of(measure: Measure, memory: &[u32], p: usize) -> Measure
     requires { 1024 * p + 1024 ≤ length memory.now }
     ensures { (ws : List ℕ) → Measures measure ws → Measures result (ws ++ page_at p memory.now) }
 {
-    measure.page(&memory[1024 * p..1024 * p + 1024])
+    measure.extend(&memory[1024 * p..1024 * p + 1024])
 }
 
 // Measures thirty-two words as two blocks.
@@ -24,7 +24,7 @@ pub fn two_blocks(measure: Measure, words: &[u32]) -> Measure
     requires { length words.now ≡ 32 }
     ensures { (ws : List ℕ) → Measures measure ws → Measures result (ws ++ words.now) }
 {
-    measure.block(&words[0..16]).block(&words[16..32])
+    measure.extend(&words[0..16]).extend(&words[16..32])
 }
 
 // The name of a cell with one thread, from its start, and one held page, from its place as a word and its contents.
@@ -35,6 +35,6 @@ pub fn name_of_cell(start: u32, place: u32, contents: &[u32]) -> [u32; 8]
     Measure::new()
         .two_words(2, start)
         .two_words(4, place)
-        .page(contents)
+        .extend(contents)
         .name()
 }

@@ -6,4 +6,4 @@ pub returns : goal.returns
 returns c ws m =
     let p = c.args.p in
     let whole : 1024 * p + 1024 - 1024 * p ≡ 1024 = omega arith in
-    subst (λ n. Measures c.page.result (ws ++ take n (drop (1024 * p) c.args.memory.now))) whole (c.page.ensures.history ws m)
+    subst (λ n. Measures c.extend.result (ws ++ take n (drop (1024 * p) c.args.memory.now))) whole (c.extend.ensures.history ws m)

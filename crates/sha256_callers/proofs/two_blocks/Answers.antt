@@ -11,4 +11,4 @@ returns c ws m =
     let both : (ws ++ take 16 words) ++ take 16 (drop 16 words) ≡ ws ++ words =
     append_assoc ws (take 16 words) (take 16 (drop 16 words))
     ∙ ap (ws ++◌) (ap (take 16 words ++◌) second ∙ take-append-drop 16 words) in
-    subst (Measures c.block-2.result) both (c.block-2.ensures.history _ (c.block.ensures.history ws m))
+    subst (Measures c.extend-2.result) both (c.extend-2.ensures.history _ (c.extend.ensures.history ws m))
