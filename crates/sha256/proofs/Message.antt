@@ -1,7 +1,7 @@
 -- Blocks of words as blocks of bytes, and the padding behind them.
 use Rattle.std.proofs.Common.{◌≡◌, ℕ, zero, suc, ◌+◌, ◌-◌, ◌*◌, ◌/◌, ◌%◌, ◌^◌, ◌<◌, List, [], ◌∷◌, ◌++◌, map, length, take, drop, replicate, sym, refl, ap, ◌∙◌, ap₂, append_assoc, suc-add, zero-add, arith, length-append, length-drop}
 use Rattle.std.proofs.lemmas.List.{take_at, drop_at, take_all, take-append-drop, take-append-le, drop-append-le, length-take-le, nil_from_length}
-use Rattle.std.proofs.lemmas.Nat.{mod-pow-add, div-mul-add, mod-mul-add}
+use Rattle.std.proofs.lemmas.Nat.{mod-pow-add}
 use Rattle.sha256.specs.Sha.{State, compressed, big_endian, big_endian_words, padded, hashed, sha256, initial, digest}
 use Rattle.sha256.specs.Words.{bytes_of, swapped, block_hashed, blocks_hashed, last_words}
 
@@ -113,26 +113,3 @@ sha256_blocks ws n h =
 pub counted_words : (n : ℕ) → last_words (512 * (n % 2 ^ 64)) ≡ last_words (512 * n)
 counted_words n =
     ap₂ (λ high low. 2147483648 ∷ replicate 13 0 ++ high ∷ low ∷ []) (omega arith) (omega arith)
-
--- ---- a word with its bytes swapped twice
-
-byte_at : (w high b p low : ℕ) → w ≡ (high * 256 + b) * p + low → low < p → b < 256 → w / p % 256 ≡ b
-byte_at w high b p low e hl hb =
-    ap (λ n. n / p % 256) e ∙ ap (λ n. n % 256) (div-mul-add (high * 256 + b) p low hl) ∙ mod-mul-add high 256 b hb
-
-swapped_bytes : (a b c d : ℕ) → a < 256 → b < 256 → c < 256 → d < 256
-    → swapped (a * 16777216 + b * 65536 + c * 256 + d) ≡ d * 16777216 + c * 65536 + b * 256 + a
-swapped_bytes a b c d ha hb hc hd =
-    let w = a * 16777216 + b * 65536 + c * 256 + d in
-    let e0 : w % 256 ≡ d = omega arith in
-    let e1 = byte_at w (a * 256 + b) c 256 d (omega arith) hd hc in
-    let e2 = byte_at w a b 65536 (c * 256 + d) (omega arith) (omega arith) hb in
-    let e3 = byte_at w 0 a 16777216 (b * 65536 + c * 256 + d) (omega arith) (omega arith) ha in
-    ap₂ (λ p q. p * 16777216 + q * 65536 + w / 65536 % 256 * 256 + w / 16777216 % 256) e0 e1
-    ∙ ap₂ (λ p q. d * 16777216 + c * 65536 + p * 256 + q) e2 e3
-
-pub swapped_twice : (w : ℕ) → w < 4294967296 → swapped (swapped w) ≡ w
-swapped_twice w h =
-    swapped_bytes (w % 256) (w / 256 % 256) (w / 65536 % 256) (w / 16777216 % 256)
-    (omega arith) (omega arith) (omega arith) (omega arith)
-    ∙ big_endian_word w ∙ omega arith
