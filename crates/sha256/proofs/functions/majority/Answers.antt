@@ -1,6 +1,5 @@
-use Rattle.std.proofs.Common.{arith}
 use Rattle.sha256.proofs.Bitwise.{maj_is}
 use Rattle.sha256.proofs.functions.majority.Goals as goal
 
 pub returns : goal.returns
-returns c = maj_is c.args.x c.args.y c.args.z (omega arith) (omega arith) (omega arith)
+returns c = maj_is c.args.x c.args.y c.args.z
