@@ -1,12 +1,12 @@
 -- What an answer says of a call: whether it was refused, and what it changed.
 use Rattle.std.proofs.Common.{◌≡◌, ℕ, ◌<◌, ◌≢◌, List, [], length, get_or, Some, None, Option, unwrap_or, sym, refl, ap, ◌∙◌, arith, get_or-set_same}
+use Rattle.std.proofs.lemmas.List.{get_or_default}
 use Rattle.model.specs.Calls.{Place, SystemCall, CellCall, Call, by_system, by_cell, garbled, hold, grow}
 use Rattle.model.specs.Answers.{Refusal, Answer, refused, done, told}
 use Rattle.model.specs.State.{Limits, State, Caller, caller, Edit, apply_all, zeros}
 use Rattle.model.specs.Refusals.{refusal, failing, cell_checks, error}
 use Rattle.model.specs.Monitor.{answer, edits, after, changed, reply, system_reply, cell_reply, caller_reply, entered, answer_or, edits_or}
 use Rattle.model.specs.Monitor.{caller_edits, cell_edits, system_edits, copied}
-use Rattle.model.proofs.Lists.{get_d_any}
 use Rattle.model.specs.Promises.{RefusedKeeps, ErrorKeeps, HeldGetsZeros, HeldGetsOpen, GrownGets}
 
 -- No reply is a refusal.
@@ -95,7 +95,7 @@ held_gets_zeros l s p c w = hold_gets l s p c w None
 
 pub held_gets_open : HeldGetsOpen
 unfolding copied
-held_gets_open l s p c w o h low a = hold_gets l s p c w (Some o) h a ∙ get_d_any s.open_pages o (zeros l) [] low
+held_gets_open l s p c w o h low a = hold_gets l s p c w (Some o) h a ∙ get_or_default s.open_pages o (zeros l) [] low
 
 no_error : (l : Limits) (s : State) (k : Caller) (p : ℕ) (w : Place) → error l s k (grow p w) ≡ 0 →
     failing (cell_checks l s k (grow p w)) ≡ None

@@ -1,6 +1,7 @@
 -- Everything in a state is in range: which edits keep this, and that those of every call do.
 use Rattle.std.proofs.Common.{◌≡◌, ℕ, zero, suc, ◌<◌, true, List, [], ◌∷◌, length, get_or, set, replicate, Some, None, Option, refl, ◌∙◌, inl, inr, arith, length-set, ltb-true}
 use lib.ListN.{length-replicate}
+use Rattle.std.proofs.lemmas.List.{get_or_default}
 use Rattle.model.specs.Calls.{SystemCall, CellCall, how_many, new_cell, new_thread, new_table, hold, give, show, remove, seal, stop, enter}
 use Rattle.model.specs.Calls.{resume, leave, interrupt, fault, grow, shrink, extend, who, draw}
 use Rattle.model.specs.Pages.{Slot, nothing, Cell, Thread, Top, Table, Entry, free, cell, thread, top, table, held, spare, in_cell}
@@ -10,7 +11,7 @@ use Rattle.model.specs.State.{measure, set_phase, set_thread, write_page, run, a
 use Rattle.model.specs.Refusals.{open_there, system_checks, cell_checks, system_fits, cell_fits}
 use Rattle.model.specs.Monitor.{copied, system_edits, cell_edits}
 use Rattle.model.specs.Invariant.{SlotFits, EntryFits}
-use Rattle.model.proofs.Lists.{get_d_set, get_d_any, getD_replicated}
+use Rattle.model.proofs.Lists.{get_d_set, getD_replicated}
 use Rattle.model.proofs.Effects.{Pass}
 
 -- What holds of an entry holds of one in which what it has is changed, if it does where it has that.
@@ -148,7 +149,7 @@ module _ (l : Limits) (s : State) (opens_long : length s.open_pages ≡ l.opens)
   copied_page None h = zeros_page l
   copied_page (Some o) h =
       let low : o < l.opens = ltb-true o l.opens h in
-      rw (get_d_any s.open_pages o (zeros l) [] (rw opens_long low)) (opens o low)
+      rw (get_or_default s.open_pages o (zeros l) [] (rw opens_long low)) (opens o low)
 
   empty_table : (p : ℕ) → (length (replicate l.slots nothing) ≡ l.slots)
       × ((j : ℕ) → SlotFits l (get_or (replicate l.slots nothing) j nothing))

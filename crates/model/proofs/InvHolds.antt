@@ -1,6 +1,6 @@
 -- The invariant holds of every world that can be, and what follows from it.
 use Rattle.std.proofs.Common.{◌≡◌, ℕ, ◌<◌, Bool, true, false, List, [], set, replicate, is_some, Some, None, Option, sym, refl, ap, ◌∙◌, subst, arith, length-set}
-use lib.ListN.{length-replicate}
+use Rattle.std.proofs.lemmas.List.{get_or-replicate}
 use Rattle.model.specs.Calls.{Place, Call, by_cell}
 use Rattle.model.specs.Pages.{closed, stopped, Cell, Entry, free, cell, top_of, table_of, held_by, kind, kind_number, part_of, is_cell}
 use Rattle.model.specs.Pages.{is_in, cell_in, cell_of, Entries, table_at, slot_in, slot_at}
@@ -12,7 +12,6 @@ use Rattle.model.specs.Worlds.{World, Act, calls, writes, runs, new_world, Possi
 use Rattle.model.specs.Worlds.{after_run, by_run}
 use Rattle.model.specs.Invariant.{Invariant, Live, EntryFits, SlotFits}
 use Rattle.model.specs.Promises.{InvariantHolds, RegistersGood, OfOneCell, SeesItsOwn, AtOnePlace, SealedRuns}
-use Rattle.model.proofs.Lists.{get_d_any, getD_replicated}
 use Rattle.model.proofs.Edits.{all_open}
 use Rattle.model.proofs.Runs.{SamePages, written_pages}
 use Rattle.model.proofs.Reached.{Sizes, all_sizes, new_sizes, same_sizes, reached}
@@ -24,6 +23,7 @@ use Rattle.model.proofs.InvFits.{below_set, EntriesFit, PagesFit, AllFit, all_fi
 use Rattle.model.proofs.InvRuns.{system_runs, cell_runs}
 use Rattle.model.proofs.InvWritten.{seen_fits, PagesWell, sight_well, written_well}
 use Rattle.model.proofs.InvRegisters.{call_registers, cell_registers}
+use Rattle.model.proofs.Lists.{getD_replicated}
 
 pub record Inv (l : Limits) (s : State) : Type 0 where
   pub sizes : Sizes l s
@@ -95,8 +95,7 @@ wrote_open_inv l s o ws I h = record {
 -- The start.
 new_pages : (l : Limits) (n : ℕ) → PagesFit l n (replicate n (zeros l))
 new_pages l n p h =
-    rw (get_d_any (replicate n (zeros l)) p [] (zeros l) (rw (length-replicate n (zeros l)) h), getD_replicated n p (zeros l))
-    (zeros_page l)
+    rw (get_or-replicate n p (zeros l) [] h) (zeros_page l)
 
 new_sound : (n : ℕ) → Sound (replicate n free)
 unfolding kind part_of

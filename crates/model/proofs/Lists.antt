@@ -1,5 +1,5 @@
 -- What is read from a list after a write.
-use Rattle.std.proofs.Common.{◌≡◌, ℕ, zero, suc, ◌<◌, ◌⊎◌, List, [], ◌∷◌, length, get_or, set, replicate, sym, refl, ap, inl, inr, le_of_suc-le-suc, not-suc-le-zero}
+use Rattle.std.proofs.Common.{◌≡◌, ℕ, zero, suc, ◌⊎◌, List, [], ◌∷◌, get_or, set, replicate, sym, refl, ap, inl, inr}
 
 module _ {A : Type 0} where
   -- What was there before, or what was written.
@@ -9,12 +9,6 @@ module _ {A : Type 0} where
   get_d_set (x ∷ xs) zero (suc j) a d = inl refl
   get_d_set (x ∷ xs) (suc i) zero a d = inl refl
   get_d_set (x ∷ xs) (suc i) (suc j) a d = elim (get_d_set xs i j a d) [ inl e ↦ inl e | inr e ↦ inr (ap suc e.0, e.1) ]
-
-  -- Inside a list the default counts for nothing.
-  pub get_d_any : (xs : List A) (i : ℕ) (a b : A) → i < length xs → get_or xs i a ≡ get_or xs i b
-  get_d_any [] i a b h = absurd (not-suc-le-zero h)
-  get_d_any (x ∷ xs) zero a b h = refl
-  get_d_any (x ∷ xs) (suc i) a b h = get_d_any xs i a b (le_of_suc-le-suc h)
 
   -- What is changed in place, by a function that leaves the default alone.
   pub changed_here : (xs : List A) (i : ℕ) (f : A → A) (d : A) → f d ≡ d → get_or (set xs i (f (get_or xs i d))) i d ≡ f (get_or xs i d)

@@ -2,7 +2,7 @@
 use Rattle.std.proofs.Common.{◌≡◌, ℕ, ◌+◌, ◌*◌, ◌<◌, Bool, true, false, cond, eqb, ltb, List, [], ◌∷◌, ◌++◌, length, get_or, drop, Some, None, Option, sym, refl, ap, ◌∙◌, ap₂, inl, inr, arith}
 use lib.ListN.{length-replicate}
 use Rattle.std.proofs.lemmas.Bool.{and_parts, ltb-true, cases_lt}
-use Rattle.std.proofs.lemmas.List.{get_or_past}
+use Rattle.std.proofs.lemmas.List.{get_or_past, get_or_default}
 use Rattle.model.specs.Calls.{Place, SystemCall, by_system, by_cell, garbled, system_number, how_many, new_cell, new_thread, new_table}
 use Rattle.model.specs.Calls.{hold, give, show, remove, seal, stop, enter, resume}
 use Rattle.model.specs.Answers.{Refusal}
@@ -15,7 +15,6 @@ use Rattle.model.specs.Worlds.{World, Act, calls, writes, runs, new_world, step,
 use Rattle.model.specs.Invariant.{Invariant}
 use Rattle.model.specs.Builds.{built_by, built_or, built_call, built_act, built_from, built, parts_words}
 use Rattle.model.specs.Promises.{InvariantHolds, SameMeasuredSameBuilt}
-use Rattle.model.proofs.Lists.{get_d_any}
 use Rattle.model.proofs.Effects.{passed}
 use Rattle.model.proofs.Built.{measured_is_built}
 use Rattle.model.proofs.Confidentiality.{reachable_more}
@@ -77,7 +76,7 @@ pub copied_long : (l : Limits) (s : State) (o : Option ℕ) → Invariant l s �
 unfolding copied
 copied_long l s None i = length-replicate l.words 0
 copied_long l s (Some o) i = elim (cases_lt o (length s.open_pages)) [
-  | inl h ↦ ap length (get_d_any s.open_pages o (zeros l) [] h) ∙ (i.opens_fit o (rw i.opens_long at h)).0
+  | inl h ↦ ap length (get_or_default s.open_pages o (zeros l) [] h) ∙ (i.opens_fit o (rw i.opens_long at h)).0
   | inr h ↦ ap length (get_or_past s.open_pages o (zeros l) h) ∙ length-replicate l.words 0
 ]
 
