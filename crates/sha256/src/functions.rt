@@ -18,7 +18,7 @@ pub fn majority(x: u32, y: u32, z: u32) -> u32
     y ^ ((x ^ y) & (y ^ z))
 }
 
-// Σ₀ and Σ₁, which are this at other numbers: a word, rotated to the right by each of them.
+// Σ₀, at 2, 13 and 22, and Σ₁, at 6, 11 and 25: a word, rotated to the right by each of three numbers.
 pub fn big_sigma<const A: u32, const B: u32, const C: u32>(x: u32) -> u32
     requires a { (0 < A) × (A < 32) }
     requires b { (0 < B) × (B < 32) }
@@ -28,7 +28,8 @@ pub fn big_sigma<const A: u32, const B: u32, const C: u32>(x: u32) -> u32
     x.rotate_right(A) ^ x.rotate_right(B) ^ x.rotate_right(C)
 }
 
-// σ₀ and σ₁, those of the message schedule, on four words at a time: each is rotated by A and by B, and shifted by C.
+// σ₀, at 7, 18 and 3, and σ₁, at 17, 19 and 10, on four words of the message schedule: each is rotated by A and by B, and
+// shifted by C.
 pub fn small_sigma<const A: u32, const B: u32, const C: u32>(x: u32x4) -> u32x4
     requires a { (0 < A) × (A < 32) }
     requires b { (0 < B) × (B < 32) }
