@@ -4,6 +4,8 @@ use borrow.Author.Tests.{lt-leb}
 use Rattle.std.proofs.lemmas.Bool.{cases_lt}
 use Rattle.std.proofs.lemmas.List.{drop_more, drop_all, drop-drop, drop-take, get_or-take}
 use Rattle.std.specs.List.{slice_get}
+use Rattle.std.specs.Option.{option_map}
+use Rattle.std.specs.Simd.{first_chunks}
 use Rattle.fields.specs.Bytes.{number_in, numbers_in}
 use Rattle.fields.specs.Codec.{Got, got, lost, read_byte, numbers, closed}
 use Rattle.fields.specs.Shapes.{padded, place, list, place_if, list_if, body, layout, place_of, numbers_of, body_of}
@@ -113,6 +115,13 @@ number_take k bs =
       at 6 (omega arith),
       at 7 (omega arith),
     ) refl
+
+-- the number in a chunk of eight bytes, at its index
+pub number_of_chunks : (n i : ℕ) (bs : List ℕ) → option_map number_in (slice_get (first_chunks 8 n bs) i) ≡ slice_get (numbers_in n bs) i
+unfolding numbers_in
+number_of_chunks zero i bs = refl
+number_of_chunks (suc n) zero bs = ap Some (number_take 0 bs)
+number_of_chunks (suc n) (suc i) bs = number_of_chunks n i (drop 8 bs)
 
 numbers_take : (n k : ℕ) (bs : List ℕ) → 8 * n ≤ k → numbers_in n (take k bs) ≡ numbers_in n bs
 unfolding numbers_in

@@ -8,6 +8,7 @@ mod writing;
 
 ghost use Rattle.fields.specs.Promises.{LawfulBodies};
 
+pub use numbers::NumbersIter;
 pub use reading::read;
 pub use values::{Fields, Numbers, Place, Registers, Shape, Unwritten};
 pub use writing::write;

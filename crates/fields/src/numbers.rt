@@ -4,30 +4,24 @@ ghost use Rattle.std.specs.List.{slice_get};
 ghost use Rattle.fields.specs.Bytes.{numbers_in};
 ghost use Rattle.fields.specs.Shapes.{numbers_of};
 
-use crate::reading::number_at;
 use crate::values::Numbers;
+use std::marker::Model;
+use std::ops::Range;
 
 fn word_at(words: &[u32], index: usize) -> Option<u64>
     ensures { result ≡ slice_get words.now index }
 {
-    if index < words.len() {
-        Some(words[index] as u64)
-    } else {
-        None
-    }
+    words.get(index).map(|word| u64::from(*word))
 }
 
 fn lent_at(bytes: &[u8], index: usize) -> Option<u64>
     ensures { result ≡ slice_get (numbers_in (length bytes.now / 8) bytes.now) index }
 {
-    if index < bytes.len() / 8 {
-        Some(number_at(bytes, 8 * index))
-    } else {
-        None
-    }
+    let (numbers, _) = bytes.as_chunks::<8>();
+    numbers.get(index).map(|number| u64::from_le_bytes(*number))
 }
 
-impl Numbers<'_> {
+impl<'a> Numbers<'a> {
     // How many there are.
     pub fn len(self) -> usize
         ensures { result ≡ length (numbers_of self.entry) }
@@ -52,5 +46,64 @@ impl Numbers<'_> {
             Numbers::Registers(registers) => word_at(&registers.words, index),
             Numbers::Lent(bytes) => lent_at(bytes, index),
         }
+    }
+
+    // One by one, from the first.
+    pub fn iter(self) -> NumbersIter<'a>
+        ensures { result ≡ numbers_of self.entry }
+    {
+        NumbersIter {
+            numbers: self,
+            indices: 0..self.len(),
+        }
+    }
+}
+
+// The numbers of a list that are still to come, by their indices.
+#[derive(Drop)]
+pub struct NumbersIter<'a> {
+    numbers: Numbers<'a>,
+    indices: Range<usize>,
+}
+
+impl<'a> Model for NumbersIter<'a> {
+    ghost use Rattle.std.specs.Prelude.{◌≡◌, ℕ, List, length, drop};
+    ghost use Rattle.fields.specs.Shapes.{numbers_of};
+
+    ghost Value = { List ℕ };
+
+    ghost view = { λ it. drop it.indices.start (numbers_of it.numbers) };
+
+    ghost invariant = { λ it. it.indices.end ≡ length (numbers_of it.numbers) };
+}
+
+impl Iterator for NumbersIter<'_> {
+    ghost use Rattle.std.specs.Iterator.{YieldsFirst, item_count};
+
+    type Item = u64;
+
+    ghost next_gives = { YieldsFirst (λ rest. rest) };
+
+    ghost remaining = { item_count (λ rest. rest) };
+
+    fn next(&mut self) -> Option<u64> {
+        let index = self.indices.next()?;
+        self.numbers.at(index)
+    }
+
+    fn size_hint(&self) -> (usize, Option<usize>) {
+        self.indices.size_hint()
+    }
+}
+
+impl<'a> IntoIterator for Numbers<'a> {
+    type Item = u64;
+
+    type IntoIter = NumbersIter<'a>;
+
+    ghost into_iter_gives = { λ numbers it. it ≡ numbers_of numbers };
+
+    fn into_iter(self) -> NumbersIter<'a> {
+        self.iter()
     }
 }
