@@ -1,109 +1,65 @@
-// The table of answers, as code: which fields a number asks for, and what answer they are.
-ghost use Rattle.std.specs.Prelude.{◌≡◌, true, [], ◌∷◌, is_some};
-ghost use Rattle.std.specs.Option.{option_map};
+// The table of answers, as code: which answer the fields of a kind are, and the fields of an answer.
+ghost use Rattle.std.specs.Prelude.{◌≡◌};
 ghost use Rattle.model.specs.Answers.{done};
-ghost use Rattle.fields.specs.Shapes.{layout, nowhere, body_of};
-ghost use Rattle.fields.specs.Tables.{find, layout_of, made};
+ghost use Rattle.fields.specs.Shapes.{body_of};
+ghost use Rattle.fields.specs.Steps.{parts_of};
+ghost use Rattle.fields.specs.Tables.{find, made};
+ghost use Rattle.answers.specs.Kinds.{kind_number};
 ghost use Rattle.answers.specs.Table.{table, parts};
 ghost use Rattle.answers.specs.Meaning.{answer_of};
 
 use crate::answer::{Answer, Refusal};
-use fields::{Fields, Numbers, Place, Shape};
+use crate::kind::Kind;
+use fields::Parts;
 
-// The fields of an answer, by its number.
-pub fn shape(number: u8) -> Option<Shape>
-    ensures { option_map layout result ≡ layout_of number table }
-{
-    match number {
-        0 | 5 => Some(Shape {
-            numbers: 2,
-            place: false,
-            list: None,
-        }),
-        1 => Some(Shape {
-            numbers: 0,
-            place: false,
-            list: None,
-        }),
-        2 => Some(Shape {
-            numbers: 1,
-            place: false,
-            list: None,
-        }),
-        3 | 4 => Some(Shape {
-            numbers: 1,
-            place: false,
-            list: Some(255),
-        }),
-        _ => None,
-    }
-}
+impl<'a> From<Parts<'a, Kind>> for Answer<'a> {
+    ghost from_gives = { λ read answer. answer_of answer ≡ made done (find (kind_number read.kind) table) (body_of read.fields) };
 
-// The answer that fields are, under the number of an answer.
-pub fn answer_from(number: u8, fields: Fields<'_>) -> Answer<'_>
-    requires { is_some (find number table) ≡ true }
-    ensures { answer_of result ≡ made done (find number table) (body_of fields.entry) }
-{
-    let [a, b, _, _] = fields.numbers;
-    match number {
-        0 => Answer::Refused {
-            refusal: Refusal {
-                number: a,
-                place: b,
+    fn from(parts: Parts<'a, Kind>) -> Self {
+        let [a, b, _, _] = parts.fields.numbers;
+        let list = parts.fields.list;
+        match parts.kind {
+            Kind::Refused => Answer::Refused {
+                refusal: Refusal {
+                    number: a,
+                    place: b,
+                },
             },
-        },
-        1 => Answer::Done,
-        2 => Answer::Number { number: a },
-        3 => Answer::Enters {
-            top: a,
-            registers: fields.list,
-        },
-        4 => Answer::Told {
-            error: a,
-            numbers: fields.list,
-        },
-        5 => Answer::Left { how: a, number: b },
-        _ => unreachable(),
+            Kind::Done => Answer::Done,
+            Kind::Number => Answer::Number { number: a },
+            Kind::Enters => Answer::Enters {
+                top: a,
+                registers: list,
+            },
+            Kind::Told => Answer::Told {
+                error: a,
+                numbers: list,
+            },
+            Kind::Left => Answer::Left { how: a, number: b },
+        }
     }
 }
 
-// An answer's number and fields.
-#[derive(Clone, Copy)]
-pub struct Parts<'a> {
-    pub number: u8,
-    pub fields: Fields<'a>,
-}
+impl<'a> From<Answer<'a>> for Parts<'a, Kind> {
+    ghost from_gives = { λ answer written. parts (answer_of answer) ≡ parts_of kind_number written };
 
-fn of(number: u8, a: u64, b: u64, list: Numbers<'_>) -> Parts<'_>
-    ensures { result ≡ record {
-      number = number;
-      fields = record {
-        numbers = a ∷ (b ∷ (0 ∷ (0 ∷ [])));
-        place = nowhere;
-        list =
-            list.entry;
-      };
-    } }
-{
-    Parts {
-        number,
-        fields: Fields {
-            numbers: [a, b, 0, 0],
-            place: Place::NOWHERE,
-            list,
-        },
-    }
-}
-
-pub fn parts_of(answer: Answer<'_>) -> Parts<'_>
-    ensures { parts (answer_of answer.entry) ≡ (result.number, body_of result.fields) }
-{
-    match answer {
-        Answer::Refused { refusal } => of(0, refusal.number, refusal.place, Numbers::None),
-        Answer::Done => of(1, 0, 0, Numbers::None),
-        Answer::Number { number } => of(2, number, 0, Numbers::None),
-        Answer::Enters { top, registers } => of(3, top, 0, registers),
-        Answer::Told { error, numbers } => of(4, error, 0, numbers),
-        Answer::Left { how, number } => of(5, how, number, Numbers::None),
+    fn from(answer: Answer<'a>) -> Self {
+        match answer {
+            Answer::Refused { refusal } => Parts::of_numbers(
+                Kind::Refused,
+                [refusal.number, refusal.place, 0, 0],
+            ),
+            Answer::Done => Parts::of_numbers(Kind::Done, [0, 0, 0, 0]),
+            Answer::Number { number } => Parts::of_numbers(Kind::Number, [number, 0, 0, 0]),
+            Answer::Enters { top, registers } => Parts::of_numbers(
+                Kind::Enters,
+                [top, 0, 0, 0],
+            ).with_list(registers),
+            Answer::Told { error, numbers } => Parts::of_numbers(
+                Kind::Told,
+                [error, 0, 0, 0],
+            ).with_list(numbers),
+            Answer::Left { how, number } => Parts::of_numbers(Kind::Left, [how, number, 0, 0]),
+        }
     }
 }

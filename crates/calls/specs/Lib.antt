@@ -1,3 +1,4 @@
 pub mod Table
+pub mod Kinds
 pub mod Meaning
 pub mod Promises

@@ -1,20 +1,16 @@
 -- A table's messages keep their promises, if each row's fields can be had back from what they make.
-use Rattle.std.proofs.Common.{◌≡◌, ℕ, suc, ◌+◌, ◌-◌, ◌<◌, ◌≤◌, Bool, true, false, eqb, List, [], ◌∷◌, ◌++◌, length, get_or, take, drop, replicate, is_some, Some, None, Ok, Err, Option, Result, sym, refl, ap, ◌∙◌, subst, ⊎_elim, arith, length-append, length-take, eqb-true, leb-true}
-use borrow.Author.Tests.{eqb-false}
+use Rattle.std.proofs.Common.{◌≡◌, ℕ, suc, ◌+◌, ◌-◌, ◌<◌, ◌≤◌, Bool, true, false, eqb, List, [], ◌∷◌, ◌++◌, length, get_or, take, replicate, is_some, Some, None, Ok, Err, Option, Result, sym, refl, ap, ◌∙◌, ⊎_elim, arith, length-append, eqb-true, leb-true}
 use Rattle.std.proofs.lemmas.Bool.{cases_Bool}
 use Rattle.std.specs.Option.{option_map, option_to_list}
 use Rattle.std.specs.List.{AllByRecursion, slice_get}
 use Rattle.model.specs.Calls as model
 use Rattle.fields.specs.Bytes.{Bytes, Wide}
 use Rattle.fields.specs.Codec.{Got, got, lost, and_then, closed, read_all}
-use Rattle.fields.specs.Shapes.{Layout, Body, padded, origin, place_if, list_if, body, few}
+use Rattle.fields.specs.Shapes.{Layout, Body, padded, origin, place_if, list_if, body}
 use Rattle.fields.specs.Tables.{first, second, third, fourth}
-use Rattle.fields.specs.Tables.{Row, find, layout_of, few_for, made, shaped, message, messages}
-use Rattle.fields.specs.Steps.{seen, Reading, Written}
-use Rattle.fields.specs.declared.values.Unwritten.{Unwritten}
-use Rattle.std.proofs.lemmas.List.{drop_more, take_rest, nil_from_length}
-use Rattle.std.proofs.ByRecursion.{All-from_get_or, All-drop}
-use Rattle.fields.proofs.Lawful.{Lawful, lawful_both, lawful_via, err_within, reading}
+use Rattle.fields.specs.Tables.{Row, find, layout_of, made, shaped, message, messages}
+use Rattle.fields.specs.Steps.{seen, Reading}
+use Rattle.fields.proofs.Lawful.{Lawful, lawful_both, lawful_via, reading}
 use Rattle.fields.proofs.Pieces.{lawful_nothing, lawful_byte}
 use Rattle.fields.proofs.Bodies.{lawful_body, wide_first}
 
@@ -48,97 +44,46 @@ abbrev pub behind_one : {A B : Type 0} → (B → A) → Result B ℕ → Result
 behind_one f (Ok v) = Ok (f v)
 behind_one f (Err k) = Err (k + 1)
 
-no_row : {A : Type 0} (o : Option (Row A)) → option_map (λ r. r.layout) o ≡ None → o ≡ None
-no_row None e = refl
-no_row (Some r) e = let z : ◌≡◌ {A = ℕ} 0 1 = cc in absurd (omega arith)
-
-some_row : {A : Type 0} (o : Option (Row A)) (l : Layout) → option_map (λ r. r.layout) o ≡ Some l →
-    (r : Row A) × (o ≡ Some r) × (r.layout ≡ l)
+some_row : {A : Type 0} (o : Option (Row A)) (l : Layout) → option_map (λ r. r.layout) o ≡ Some l → (is_some o ≡ true) × (shaped o ≡ body l)
 some_row None l e = let z : ◌≡◌ {A = ℕ} 0 1 = cc in absurd (omega arith)
-some_row (Some r) l e = (r, refl, cc)
-
--- bytes that begin with the number of no row
-pub read_unknown : {A : Type 0} (from : A → ℕ × Body) (none : A) (rs : List (Row A)) (n : ℕ) (bs : List ℕ) → layout_of n rs ≡ None →
-    read_all (messages none rs from) (n ∷ bs) ≡ Err 0
-read_unknown from none rs n bs e =
-    let z : suc (length bs) - suc (length bs) ≡ 0 = omega arith in
-    rw (no_row (find n rs) e) (ap Err z)
+some_row (Some r) l e = (refl, let d : r.layout ≡ l = cc in ap body d)
 
 -- what is left after a number, once the fields behind it are read
-closed_behind : {A : Type 0} (to : ℕ × Body → A) (n len : ℕ) (g : Got Body) → ((r : ℕ) → g ≡ lost r → r ≤ len) →
+closed_behind : (n len : ℕ) (g : Got Body) → ((r : ℕ) → g ≡ lost r → r ≤ len) →
     ((f : Body) (rest : List ℕ) → g ≡ got f rest → length rest ≤ len) →
-    closed (suc len) (and_then (and_then {B = ℕ × Body} g (λ b end. got (n, b) end)) (λ m rest. got (to m) rest)) ≡ behind_one (λ f. to
-    (n, f)) (closed len g)
-closed_behind to n len (got f []) l h = refl
-closed_behind to n len (got f (b ∷ bs)) l h =
+    closed (suc len) (and_then {B = ℕ × Body} g (λ b end. got (n, b) end)) ≡ behind_one (λ f. (n, f)) (closed len g)
+closed_behind n len (got f []) l h = refl
+closed_behind n len (got f (b ∷ bs)) l h =
     let i : suc (length bs) ≤ len = h f (b ∷ bs) refl in
     ap Err (omega arith)
-closed_behind to n len (lost r) l h = let i : r ≤ len = l r refl in ap Err (omega arith)
+closed_behind n len (lost r) l h = let i : r ≤ len = l r refl in ap Err (omega arith)
 
 -- bytes that begin with a row's number, in terms of what is read of the fields behind it
-pub read_known : {A : Type 0} (from : A → ℕ × Body) (none : A) (rs : List (Row A)) (n : ℕ) (bs : List ℕ) (l : Layout) → Bytes bs →
-    layout_of n rs ≡ Some l → read_all (messages none rs from) (n ∷ bs) ≡ behind_one (made none (find n rs)) (read_all (body l) bs)
-read_known {A} from none rs n bs l t e =
+pub read_behind : {A : Type 0} (rs : List (Row A)) (n : ℕ) (bs : List ℕ) (l : Layout) → Bytes bs → layout_of n rs ≡ Some l →
+    read_all (message rs) (n ∷ bs) ≡ behind_one (λ f. (n, f)) (read_all (body l) bs)
+read_behind rs n bs l t e =
     let s = some_row (find n rs) l e in
-    let to : ℕ × Body → A = λ m. made none (find m.0 rs) m.1 in
     let law = lawful_body l in
-    let there : is_some (find n rs) ≡ true = ap is_some s.1 in
-    let its_body : shaped (find n rs) ≡ body l = ap shaped s.1 ∙ ap body s.2 in
-    let c = closed_behind to n (length bs) ((body l).read bs)
+    let c = closed_behind n (length bs) ((body l).read bs)
     (λ r h. let w = law.reached bs r t h in omega (arith, w.2))
     (λ f rest h. let o = law.only bs f rest t h in omega (arith, ap length o.1 ∙ length-append ((body l).write f) rest)) in
-    let a : read_all (messages none rs from) (n ∷ bs)
-    ≡ closed (suc (length bs)) (and_then (and_then {B = ℕ × Body} ((body l).read bs) (λ b end. got (n, b) end)) (λ m rest. got
-    (to m) rest)) =
-    rw (there, its_body) refl in
+    let a : read_all (message rs) (n ∷ bs)
+    ≡ closed (suc (length bs)) (and_then {B = ℕ × Body} ((body l).read bs) (λ b end. got (n, b) end)) = rw (s.0, s.1) refl in
     a ∙ c
 
--- The same of bytes as code has them: the first, and a part with the rest.
-module _ {A B : Type 0} (from : A → ℕ × Body) (none : A) (rs : List (Row A)) (see : B → A) (law : Lawful (messages none rs from))
-    (bs : List ℕ) (typed : (i : ℕ) → get_or bs i 0 < 256) where
-  pub message_empty : true ≡ eqb (length bs) 0 → Reading (messages none rs from) see bs (Err 0)
-  message_empty e =
-      let none_there : bs ≡ [] = nil_from_length bs (eqb-true _ _ (sym e)) in
-      reading (messages none rs from) see bs (Err 0) law typed (rw none_there refl)
+closed_via : {A B : Type 0} (to : A → B) (n : ℕ) (g : Got A) → closed n (and_then g (λ a rest. got (to a) rest)) ≡ seen to (closed n g)
+closed_via to n (got v []) = refl
+closed_via to n (got v (b ∷ bs)) = refl
+closed_via to n (lost r) = refl
 
-  pub message_unknown : false ≡ eqb (length bs) 0 → None ≡ layout_of (get_or bs 0 0) rs → Reading (messages none rs from) see bs (Err 0)
-  message_unknown e o =
-      let split : bs ≡ get_or bs 0 0 ∷ drop 1 bs = drop_more bs 0 0 (omega (arith, eqb-false _ _ (sym e))) in
-      reading (messages none rs from) see bs (Err 0) law typed
-      (ap (read_all (messages none rs from)) split ∙ read_unknown from none rs (get_or bs 0 0) (drop 1 bs) (sym o))
-
-  pub message_known : {C : Type 0} (l : Layout) (f : C → Body) (r : Result C ℕ) (s : Result B ℕ) → false ≡ eqb (length bs) 0 →
-      Some l ≡ layout_of (get_or bs 0 0) rs → read_all (body l) (take (length bs - 1) (drop 1 bs)) ≡ seen f r →
-      behind_one (made none (find (get_or bs 0 0) rs)) (seen f r) ≡ seen see s → Reading (messages none rs from) see bs s
-  message_known l f r s e o v w =
-      let split : bs ≡ get_or bs 0 0 ∷ drop 1 bs = drop_more bs 0 0 (omega (arith, eqb-false _ _ (sym e))) in
-      let t = All-drop _ 1 bs (All-from_get_or (λ b. b < 256) bs 0 (λ i _. typed i)) in
-      reading (messages none rs from) see bs s law typed
-      (ap (read_all (messages none rs from)) split ∙ read_known from none rs (get_or bs 0 0) (drop 1 bs) l t (sym o)
-      ∙ ap (λ x. behind_one (made none (find (get_or bs 0 0) rs)) (read_all (body l) x)) (sym (take_rest bs 1))
-      ∙ ap (behind_one (made none (find (get_or bs 0 0) rs))) v ∙ w)
-
--- a place in the part behind the number, and one byte more
-pub place_fits_behind : (bs : List ℕ) (l : Layout) (k : ℕ) → false ≡ eqb (length bs) 0 →
-    read_all (body l) (take (length bs - 1) (drop 1 bs)) ≡ Err k → k + 1 ≤ length bs
-place_fits_behind bs l k e h =
-    let rest : List ℕ = take (length bs - 1) (drop 1 bs) in
-    let short : length rest ≤ length bs - 1 = simp length-take (omega arith) in
-    omega (arith, err_within (length rest) ((body l).read rest) k h, eqb-false _ _ (sym e))
-
--- a message that is written by its number, its row's layout and its fields
-pub written_message : {A : Type 0} (from : A → ℕ × Body) (none : A) (rs : List (Row A)) (v : A) (n : ℕ) (f : Body) (l : Layout)
-    (before after : List ℕ) (r : Result ℕ Unwritten) → from v ≡ (n, f) → Some l ≡ layout_of n rs →
-    Written (few l.list (length f.list)) (n ∷ (body l).write f) before after r →
-    Written (few_for (find (from v).0 rs) (length (from v).1.list)) ((messages none rs from).write v) before after r
-written_message from none rs v n f l before after r e o w =
-    let s = some_row (find n rs) l (sym o) in
-    let lay : few_for (find n rs) (length f.list) ≡ few l.list (length f.list) =
-    ap (λ x. few_for x (length f.list)) s.1 ∙ ap (λ x. few x.list (length f.list)) s.2 in
-    let its_body : shaped (find n rs) ≡ body l = ap shaped s.1 ∙ ap body s.2 in
-    let P : ℕ × Body → Type 0 =
-    λ m. Written (few_for (find m.0 rs) (length m.1.list)) (m.0 ∷ (shaped (find m.0 rs)).write m.1) before after r in
-    subst P (sym e) (rw (lay, its_body) w)
+-- what the messages of a table mean, as code has read them by their parts
+pub messages_read : {A B C : Type 0} (from : A → ℕ × Body) (none : A) (rs : List (Row A)) (see : B → A) → Lawful (messages none rs from) →
+    (bs : List ℕ) → ((i : ℕ) → get_or bs i 0 < 256) → (parts : C → ℕ × Body) (r : Result C ℕ) (s : Result B ℕ) →
+    read_all (message rs) bs ≡ seen parts r → seen (λ m. made none (find m.0 rs) m.1) (seen parts r) ≡ seen see s →
+    Reading (messages none rs from) see bs s
+messages_read {A} from none rs see law bs typed parts r s v w =
+    let to : ℕ × Body → A = λ m. made none (find m.0 rs) m.1 in
+    reading (messages none rs from) see bs s law typed (closed_via to (length bs) ((message rs).read bs) ∙ ap (seen to) v ∙ w)
 
 -- four numbers of which only some are there
 none_there : (ns : List ℕ) → (padded 0).fits ns → 0 ∷ (0 ∷ (0 ∷ (0 ∷ []))) ≡ ns

@@ -1,8 +1,9 @@
 -- What a step over bytes has done: a cursor that reads on, a slice that is written on, a whole message that is written.
 use Rattle.std.specs.Prelude.{◌≡◌, ℕ, ◌+◌, ◌-◌, ◌<◌, ◌≤◌, Bool, true, false, List, ◌++◌, length, take, drop, Some, None, Ok, Err, Option, Result, MatchResult}
 use Rattle.fields.specs.Codec.{Codec, got, lost, read_all, Ceases}
-use Rattle.fields.specs.Shapes.{list_if, few}
+use Rattle.fields.specs.Shapes.{Body, list_if, few, body_of}
 use Rattle.fields.specs.declared.reading.Cursor.{Cursor}
+use Rattle.fields.specs.declared.values.Parts.{Parts}
 use Rattle.fields.specs.declared.values.Unwritten.{Unwritten}
 use Rattle.fields.specs.declared.values.Unwritten.TheVariants.{TooMany, TooShort}
 
@@ -22,6 +23,10 @@ Read c f r (Err k) s = (c.read (rest_of r) ≡ lost (length (all_of r) - k)) × 
 abbrev pub seen : {A B : Type 0} → (B → A) → Result B ℕ → Result A ℕ
 seen f (Ok v) = Ok (f v)
 seen f (Err k) = Err k
+
+-- a message's number and fields, by the number of its kind
+abbrev pub parts_of : {K : Type 0} → (K → ℕ) → Parts K → ℕ × Body
+parts_of number_of p = (number_of p.kind, body_of p.fields)
 
 -- All of the bytes were read, as f sees it: the value is the codec's, and the bytes are those that are written for it; or they cease to be
 -- one where the codec says, which is the length of their longest beginning that some value's bytes begin with.

@@ -1,8 +1,9 @@
 -- A table of messages: a row for each number that is one, with its layout, and what its fields make.
-use Rattle.std.specs.Prelude.{ℕ, Bool, false, cond, List, [], ◌∷◌, replicate, is_some, Some, None, Option, ◌==◌, slice_index}
+use Rattle.std.specs.Prelude.{◌≡◌, ℕ, Bool, false, cond, List, [], ◌∷◌, replicate, is_some, Some, None, Option, Result, ◌==◌, slice_index, MatchResult}
 use Rattle.std.specs.Option.{option_map}
 use Rattle.fields.specs.Codec.{Codec, nothing, byte, both, via}
 use Rattle.fields.specs.Shapes.{Layout, Body, origin, body, few}
+use Rattle.fields.specs.declared.values.UnknownKind.{UnknownKind}
 
 pub record Row (A : Type 0) : Type 0 where
   pub number : ℕ
@@ -16,6 +17,10 @@ row n k p l makes = record { number = n; layout = record { numbers = k; place = 
 abbrev pub find : {A : Type 0} → ℕ → List (Row A) → Option (Row A)
 find n [] = None
 find n (r ∷ rs) = cond (n == r.number) (Some r) (find n rs)
+
+-- the kind that has a number, or the number, which no row has
+abbrev pub Finds : {K A : Type 0} → (K → ℕ) → List (Row A) → ℕ → Result K UnknownKind → Type 0
+Finds number_of rs n r = MatchResult r (λ kind. number_of kind ≡ n) (λ unknown. (unknown.0 ≡ n) × (find n rs ≡ None))
 
 abbrev pub layout_of : {A : Type 0} → ℕ → List (Row A) → Option Layout
 layout_of n rs = option_map (λ r. r.layout) (find n rs)

@@ -59,6 +59,20 @@ impl<'a> Numbers<'a> {
     }
 }
 
+// A list of at most one number.
+impl From<Option<u64>> for Numbers<'_> {
+    ghost use Rattle.std.specs.Option.{option_to_list};
+
+    ghost from_gives = { λ number list. numbers_of list ≡ option_to_list number };
+
+    fn from(number: Option<u64>) -> Self {
+        match number {
+            Some(number) => Numbers::One(number),
+            None => Numbers::None,
+        }
+    }
+}
+
 // The numbers of a list that are still to come, by their indices.
 #[derive(Drop)]
 pub struct NumbersIter<'a> {

@@ -1,5 +1,5 @@
 // The values that fields hold.
-ghost use Rattle.std.specs.Prelude.{◌≤◌};
+ghost use Rattle.std.specs.Prelude.{◌≡◌, ◌≤◌, true, false, Some, None};
 
 // Where a cell sees a page: in which table, in which slot of it, and whether it may write there, and run what is there.
 #[derive(Clone, Copy)]
@@ -44,6 +44,53 @@ pub struct Fields<'a> {
     pub list: Numbers<'a>,
 }
 
+// A message, as its kind and its fields.
+#[derive(Clone, Copy)]
+pub struct Parts<'a, K> {
+    pub kind: K,
+    pub fields: Fields<'a>,
+}
+
+impl<'a, K> Parts<'a, K> {
+    ghost use Rattle.fields.specs.Shapes.{nowhere};
+
+    // With numbers, and nothing else.
+    pub fn of_numbers(kind: K, numbers: [u64; 4]) -> Self
+        ensures { (result.kind ≡ kind) × (result.fields ≡ record { numbers = numbers; place = nowhere; list = Numbers.None }) }
+    {
+        let fields = Fields {
+            numbers,
+            place: Place::NOWHERE,
+            list: Numbers::None,
+        };
+        Parts { kind, fields }
+    }
+
+    // The same with a place.
+    pub fn with_place(self, place: Place) -> Self
+        ensures { (result.kind ≡ self.entry.kind) × (result.fields.numbers ≡ self.entry.fields.numbers)
+            × (result.fields.place ≡ place) × (result.fields.list ≡ self.entry.fields.list) }
+    {
+        let Parts { kind, fields } = self;
+        let fields = Fields { place, ..fields };
+        Parts { kind, fields }
+    }
+
+    // The same with a list.
+    pub fn with_list(self, list: Numbers<'a>) -> Self
+        ensures { (result.kind ≡ self.entry.kind) × (result.fields.numbers ≡ self.entry.fields.numbers)
+            × (result.fields.place ≡ self.entry.fields.place) × (result.fields.list ≡ list.entry) }
+    {
+        let Parts { kind, fields } = self;
+        let fields = Fields { list, ..fields };
+        Parts { kind, fields }
+    }
+}
+
+// A number that no kind of message has.
+#[derive(Clone, Copy, Debug, PartialEq, Eq)]
+pub struct UnknownKind(pub u8);
+
 // Which fields there are: how many numbers, whether a place, and a list of at most how many.
 #[derive(Clone, Copy)]
 pub struct Shape {
@@ -51,6 +98,36 @@ pub struct Shape {
     pub place: bool,
     pub list: Option<u8>,
     ghost few: { numbers ≤ 4 },
+}
+
+impl Shape {
+    // So many numbers, at most four, and nothing else.
+    pub fn of_numbers(numbers: usize) -> Shape
+        requires { numbers ≤ 4 }
+        ensures { (result.numbers ≡ numbers) × (result.place ≡ false) × (result.list ≡ None) }
+    {
+        Shape {
+            numbers,
+            place: false,
+            list: None,
+        }
+    }
+
+    // The same with a place behind the numbers.
+    pub fn with_place(mut self) -> Shape
+        ensures { (result.numbers ≡ self.numbers) × (result.place ≡ true) × (result.list ≡ self.list) }
+    {
+        self.place = true;
+        self
+    }
+
+    // The same with a list of at most so many numbers at the end.
+    pub fn with_list(mut self, most: u8) -> Shape
+        ensures { (result.numbers ≡ self.numbers) × (result.place ≡ self.place) × (result.list ≡ Some most) }
+    {
+        self.list = Some(most);
+        self
+    }
 }
 
 // Why nothing was written: the list has more numbers than its kind of message can carry, or the slice has too few bytes.
