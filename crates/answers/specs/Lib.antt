@@ -2,3 +2,5 @@ pub mod Table
 pub mod Kinds
 pub mod Meaning
 pub mod Promises
+pub mod Reasons
+pub mod Endings

@@ -2,7 +2,9 @@
 #![tactic(auto)]
 
 mod answer;
+mod ending;
 mod kind;
+mod reason;
 mod rows;
 
 ghost use Rattle.std.specs.Prelude.{◌≡◌};
@@ -13,8 +15,10 @@ ghost use Rattle.answers.specs.Meaning.{answer_of};
 ghost use Rattle.answers.specs.Promises.{AnswersStand};
 
 pub use answer::{Answer, Refusal};
+pub use ending::Ending;
 use fields::{Numbers, Parts, Unwritten};
 pub use kind::Kind;
+pub use reason::Reason;
 
 // The answer that bytes are, or the place where they cease to be one.
 pub fn read(bytes: &[u8]) -> Result<Answer<'_>, usize>

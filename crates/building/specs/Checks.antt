@@ -4,6 +4,10 @@ use Rattle.model.specs.Calls.{Place}
 use Rattle.model.specs.Refusals.{Check, ◌else◌}
 use Rattle.lookups.specs.Lookups.{there, open_there, record_of, is_free, cell_of, is_building, is_sealed, is_stopped, table_by, vacant_by}
 
+-- a page that is there, and free
+abbrev pub free_checks : List ℕ → ℕ → List Check
+free_checks m p = there m p else 3 ∷ is_free (record_of m p) else 4 ∷ []
+
 -- a new cell: its first page, and its top table's
 abbrev pub make_checks : List ℕ → ℕ → ℕ → List Check
 make_checks m p t =

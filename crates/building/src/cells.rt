@@ -5,31 +5,32 @@ ghost use Rattle.lookups.specs.Outcomes.{Checked, Taken};
 ghost use Rattle.building.specs.Checks.{make_checks, start_checks, give_checks};
 ghost use Rattle.building.specs.Made.{made_cell, made_thread, given};
 
-use answers::Refusal;
+use crate::free::free_page;
+use answers::Reason;
 use full_pages::{Phase, Record};
 use sha256::Measure;
 
 // Whether a cell may be made of two pages.
-fn may_make(memory: &[u64], first: u64, top: u64) -> Result<(), Refusal>
+fn may_make(memory: &[u64], first: u64, top: u64) -> Result<(), Reason>
     requires { Sized memory.now }
     ensures { Checked (make_checks memory.now first top) (λ _. (first < slice_index memory.now 0) × (top < slice_index_or
         memory.now 0 0)) result }
 {
     let pages = full_pages::pages(memory);
     if first >= pages || top >= pages || first == top {
-        return Err(Refusal::by(3));
+        return Err(Reason::NotThere);
     }
     let Record::Free = lookups::record_of(memory, first) else {
-        return Err(Refusal::by(4));
+        return Err(Reason::InUse);
     };
     let Record::Free = lookups::record_of(memory, top) else {
-        return Err(Refusal::by(4));
+        return Err(Reason::InUse);
     };
     Ok(())
 }
 
 // Makes a cell of its first page and its top table's.
-pub fn new_cell(memory: &mut [u64], first: u64, top: u64) -> Result<(), Refusal>
+pub fn new_cell(memory: &mut [u64], first: u64, top: u64) -> Result<(), Reason>
     requires { Sized memory.old }
     ensures { Taken (make_checks memory.old first top) memory.old (made_cell memory.old first top)
         memory.new result }
@@ -49,29 +50,24 @@ pub fn new_cell(memory: &mut [u64], first: u64, top: u64) -> Result<(), Refusal>
 }
 
 // Whether a page may be a thread of a cell.
-fn may_start(memory: &[u64], page: u64, cell: u64) -> Result<(), Refusal>
+fn may_start(memory: &[u64], page: u64, cell: u64) -> Result<(), Reason>
     requires { Sized memory.now }
     ensures { Checked (start_checks memory.now page cell) (λ _. (page < slice_index memory.now 0) × (cell < slice_index_or
         memory.now 0 0)) result }
 {
     let Some(has) = lookups::cell_of(memory, cell) else {
-        return Err(Refusal::by(5));
+        return Err(Reason::NoCell);
     };
-    if page >= full_pages::pages(memory) {
-        return Err(Refusal::by(3));
-    }
-    let Record::Free = lookups::record_of(memory, page) else {
-        return Err(Refusal::by(4));
-    };
+    free_page(memory, page)?;
     match has.phase {
         Phase::Building => Ok(()),
-        Phase::Sealed => Err(Refusal::by(6)),
-        Phase::Stopped => Err(Refusal::by(13)),
+        Phase::Sealed => Err(Reason::NotBuilding),
+        Phase::Stopped => Err(Reason::Stopped),
     }
 }
 
 // Makes a page a thread of a cell, which starts at an address; measured are 2 and where it starts.
-pub fn new_thread(memory: &mut [u64], page: u64, cell: u64, start: u32) -> Result<(), Refusal>
+pub fn new_thread(memory: &mut [u64], page: u64, cell: u64, start: u32) -> Result<(), Reason>
     requires { Sized memory.old }
     ensures { Taken (start_checks memory.old page cell) memory.old (made_thread memory.old page cell start) memory.new result }
 {
@@ -91,27 +87,22 @@ pub fn new_thread(memory: &mut [u64], page: u64, cell: u64, start: u32) -> Resul
 }
 
 // Whether a page may be given to a cell.
-fn may_give(memory: &[u64], page: u64, cell: u64) -> Result<(), Refusal>
+fn may_give(memory: &[u64], page: u64, cell: u64) -> Result<(), Reason>
     requires { Sized memory.now }
     ensures { Checked (give_checks memory.now page cell) (λ _. page < slice_index memory.now 0) result }
 {
     let Some(cell) = lookups::cell_of(memory, cell) else {
-        return Err(Refusal::by(5));
+        return Err(Reason::NoCell);
     };
-    if page >= full_pages::pages(memory) {
-        return Err(Refusal::by(3));
-    }
-    let Record::Free = lookups::record_of(memory, page) else {
-        return Err(Refusal::by(4));
-    };
+    free_page(memory, page)?;
     if let Phase::Stopped = cell.phase {
-        return Err(Refusal::by(13));
+        return Err(Reason::Stopped);
     }
     Ok(())
 }
 
 // Gives a cell a spare page.
-pub fn give(memory: &mut [u64], page: u64, cell: u64) -> Result<(), Refusal>
+pub fn give(memory: &mut [u64], page: u64, cell: u64) -> Result<(), Reason>
     requires { Sized memory.old }
     ensures { Taken (give_checks memory.old page cell) memory.old (given memory.old page cell) memory.new result }
 {

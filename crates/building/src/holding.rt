@@ -7,7 +7,8 @@ ghost use Rattle.lookups.specs.Outcomes.{Checked, Taken};
 ghost use Rattle.building.specs.Checks.{hold_checks, source_there};
 ghost use Rattle.building.specs.Made.{table_for, made_held, source_words, held_measure, held_memory, held_pages};
 
-use answers::Refusal;
+use crate::free::free_page;
+use answers::Reason;
 use fields::Place;
 use full_pages::{Phase, Record, Slot};
 use sha256::Measure;
@@ -17,10 +18,7 @@ fn may_copy(memory: &[u64], source: Option<u64>) -> bool
     requires { Sized memory.now }
     ensures { result ≡ source_there memory.now source }
 {
-    match source {
-        None => true,
-        Some(open) => open < full_pages::opens(memory),
-    }
+    source.is_none_or(|open| open < full_pages::opens(memory))
 }
 
 // Whether a cell may hold a page at a place; hands on the table that the place is in.
@@ -30,7 +28,7 @@ fn may_hold(
     cell: u64,
     place: Place,
     source: Option<u64>,
-) -> Result<u64, Refusal>
+) -> Result<u64, Reason>
     requires { (Sized memory.now) × ((place.table < 256) × (place.slot < 1024)) }
     ensures { Checked (hold_checks memory.now page cell (place_of place) source)
         (λ table. (table ≡ table_for memory.now cell (place_of place)) × (table < slice_index memory.now 0)
@@ -38,23 +36,18 @@ fn may_hold(
         × (cell < slice_index memory.now 0) × (source_there memory.now source ≡ true)) result }
 {
     let Some(has) = lookups::cell_of(memory, cell) else {
-        return Err(Refusal::by(5));
+        return Err(Reason::NoCell);
     };
     let Phase::Building = has.phase else {
-        return Err(Refusal::by(6));
+        return Err(Reason::NotBuilding);
     };
     let Some(table) = lookups::vacant(memory, has.top, place) else {
-        return Err(Refusal::by(8));
+        return Err(Reason::NotVacant);
     };
     if !may_copy(memory, source) {
-        return Err(Refusal::by(3));
+        return Err(Reason::NotThere);
     }
-    if page >= full_pages::pages(memory) {
-        return Err(Refusal::by(3));
-    }
-    let Record::Free = lookups::record_of(memory, page) else {
-        return Err(Refusal::by(4));
-    };
+    free_page(memory, page)?;
     Ok(table)
 }
 
@@ -106,7 +99,7 @@ pub fn hold(
     cell: u64,
     place: Place,
     source: Option<u64>,
-) -> Result<(), Refusal>
+) -> Result<(), Reason>
     requires sized { (Sized memory.old) × ((place.table < 256) × (place.slot < 1024)) }
     requires closed_len { (length closed.old ≡ slice_index memory.old 0 * 1024) × (length «open».now ≡ slice_index memory.old 1 * 1024) }
     ensures memory { Taken (hold_checks memory.old page cell (place_of place) source) memory.old

@@ -2,6 +2,7 @@
 #![tactic(auto)]
 
 mod cells;
+mod free;
 mod holding;
 mod tables;
 

@@ -7,37 +7,33 @@ ghost use Rattle.lookups.specs.Outcomes.{Checked, Taken};
 ghost use Rattle.building.specs.Checks.{add_checks, show_checks};
 ghost use Rattle.building.specs.Made.{made_table, table_for, shown};
 
-use answers::Refusal;
+use crate::free::free_page;
+use answers::Reason;
 use fields::Place;
 use full_pages::{Phase, Record, Slot};
 
 // Whether a page may be a table of a cell, at a place of its top table; hands on the top table's page.
-fn may_add(memory: &[u64], page: u64, cell: u64, index: u64) -> Result<u64, Refusal>
+fn may_add(memory: &[u64], page: u64, cell: u64, index: u64) -> Result<u64, Reason>
     requires { Sized memory.now }
     ensures { Checked (add_checks memory.now page cell index)
         (λ top. (top ≡ top_of (cell_of memory.now cell)) × (top < slice_index memory.now 0) × (page < slice_index memory.now 0)
         × (index < 256)) result }
 {
     if index >= 256 {
-        return Err(Refusal::by(8));
+        return Err(Reason::NotVacant);
     }
     let Some(cell) = lookups::cell_of(memory, cell) else {
-        return Err(Refusal::by(5));
+        return Err(Reason::NoCell);
     };
     if let Phase::Stopped = cell.phase {
-        return Err(Refusal::by(13));
+        return Err(Reason::Stopped);
     }
     let None = lookups::table_of(memory, cell.top, index) else {
-        return Err(Refusal::by(9));
+        return Err(Reason::PlaceInUse);
     };
-    if page >= full_pages::pages(memory) {
-        return Err(Refusal::by(3));
-    }
-    let Record::Free = lookups::record_of(memory, page) else {
-        return Err(Refusal::by(4));
-    };
+    free_page(memory, page)?;
     let Phase::Building = cell.phase else {
-        return Err(Refusal::by(6));
+        return Err(Reason::NotBuilding);
     };
     Ok(cell.top)
 }
@@ -52,7 +48,7 @@ pub fn become_table(memory: &mut [u64], page: u64, cell: u64, top: u64, index: u
 }
 
 // Makes a page a table of a cell.
-pub fn new_table(memory: &mut [u64], page: u64, cell: u64, index: u64) -> Result<(), Refusal>
+pub fn new_table(memory: &mut [u64], page: u64, cell: u64, index: u64) -> Result<(), Reason>
     requires { Sized memory.old }
     ensures { Taken (add_checks memory.old page cell index) memory.old
         (made_table memory.old page cell (top_of (cell_of memory.old cell)) index) memory.new result }
@@ -63,29 +59,29 @@ pub fn new_table(memory: &mut [u64], page: u64, cell: u64, index: u64) -> Result
 }
 
 // Whether a cell may be shown an open page at a place; hands on the table that the place is in.
-fn may_show(memory: &[u64], open: u64, cell: u64, place: Place) -> Result<u64, Refusal>
+fn may_show(memory: &[u64], open: u64, cell: u64, place: Place) -> Result<u64, Reason>
     requires { (Sized memory.now) × ((place.table < 256) × (place.slot < 1024)) }
     ensures { Checked (show_checks memory.now «open» cell (place_of place))
         (λ table. (table ≡ table_for memory.now cell (place_of place)) × (table < slice_index memory.now 0)
         × («open» < slice_index memory.now 1)) result }
 {
     let Some(cell) = lookups::cell_of(memory, cell) else {
-        return Err(Refusal::by(5));
+        return Err(Reason::NoCell);
     };
     let Phase::Building = cell.phase else {
-        return Err(Refusal::by(6));
+        return Err(Reason::NotBuilding);
     };
     let Some(table) = lookups::vacant(memory, cell.top, place) else {
-        return Err(Refusal::by(8));
+        return Err(Reason::NotVacant);
     };
     if open >= full_pages::opens(memory) {
-        return Err(Refusal::by(3));
+        return Err(Reason::NotThere);
     }
     Ok(table)
 }
 
 // Shows a cell an open page, which is never run.
-pub fn show(memory: &mut [u64], open: u64, cell: u64, place: Place) -> Result<(), Refusal>
+pub fn show(memory: &mut [u64], open: u64, cell: u64, place: Place) -> Result<(), Reason>
     requires { (Sized memory.old) × ((place.table < 256) × (place.slot < 1024)) }
     ensures { Taken (show_checks memory.old «open» cell (place_of place)) memory.old
         (shown memory.old «open» cell (place_of place)) memory.new result }

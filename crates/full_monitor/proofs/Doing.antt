@@ -1,7 +1,7 @@
 -- From what a room did to what the program does.
 use Rattle.std.proofs.Common.{◌≡◌, ℕ, true, false, List, [], is_some, Some, None, Ok, Err, Option, Result, unwrap_or, sym, refl, ap, ◌∙◌, ap₂, arith}
 use borrow.Author.Tests.{clash}
-use Rattle.answers.specs.declared.answer.Refusal.{Refusal}
+use Rattle.answers.specs.declared.reason.Reason.{Reason}
 use Rattle.model.specs.Calls.{SystemCall, CellCall, Call, by_system, by_cell, garbled}
 use Rattle.model.specs.Answers.{Answer, refused, done, enters, told}
 use Rattle.model.specs.Refusals.{Check, failing}
@@ -21,34 +21,30 @@ same x None = refl
 same x (Some k) = refl
 
 -- a room's outcome
-pub taken_leaves : {A B : Type 0} (cs : List Check) (before made after : A) (r : Result B Refusal) → Taken cs before made after r →
+pub taken_leaves : {A B : Type 0} (cs : List Check) (before made after : A) (r : Result B Reason) → Taken cs before made after r →
     after ≡ unless made before (failing cs)
 taken_leaves cs b m a (Ok x) t = t.1 ∙ sym (ap (unless m b) t.0)
-taken_leaves cs b m a (Err r) t = t.2 ∙ sym (ap (unless m b) t.0)
+taken_leaves cs b m a (Err r) t = t.1 ∙ sym (ap (unless m b) t.0)
 
-refused_is : (cs : List Check) (a : Answer) (r : Refusal) → failing cs ≡ Some r.number → r.place ≡ 0 →
-    refused (record { number = r.number; place = r.place }) ≡ reply_unless a (failing cs)
-refused_is cs a r h p = ap (λ n. refused (record { number = r.number; place = n })) p ∙ sym (ap (reply_unless a) h)
-
-pub taken_done : {A : Type 0} (cs : List Check) (before made after : A) (r : Result (Unit {0}) Refusal) → Taken cs before made after r →
+pub taken_done : {A : Type 0} (cs : List Check) (before made after : A) (r : Result (Unit {0}) Reason) → Taken cs before made after r →
     done_by r ≡ reply_unless done (failing cs)
 taken_done cs b m a (Ok x) t = sym (ap (reply_unless done) t.0)
-taken_done cs b m a (Err r) t = refused_is cs done r t.0 t.1
+taken_done cs b m a (Err r) t = sym (ap (reply_unless done) t.0)
 
-pub taken_told : {A : Type 0} (cs : List Check) (before made after : A) (r : Result (Unit {0}) Refusal) → Taken cs before made after r →
+pub taken_told : {A : Type 0} (cs : List Check) (before made after : A) (r : Result (Unit {0}) Reason) → Taken cs before made after r →
     told_by r ≡ told (unwrap_or (failing cs) 0) []
 taken_told cs b m a (Ok x) t = sym (ap (λ o. told (unwrap_or o 0) []) t.0)
 taken_told cs b m a (Err r) t = sym (ap (λ o. told (unwrap_or o 0) []) t.0)
 
-pub entered_says : (cs : List Check) (m : List ℕ) (t : ℕ) (rs after : List ℕ) (r : Result Entry Refusal) → Entered cs m t rs after r →
+pub entered_says : (cs : List Check) (m : List ℕ) (t : ℕ) (rs after : List ℕ) (r : Result Entry Reason) → Entered cs m t rs after r →
     entered_by r ≡ reply_unless (enters (top_for m (thread_of m t)) rs) (failing cs)
 entered_says cs m t rs a (Ok e) h = ap₂ enters h.2 h.3 ∙ sym (ap (reply_unless (enters (top_for m (thread_of m t)) rs)) h.0)
-entered_says cs m t rs a (Err r) h = refused_is cs (enters (top_for m (thread_of m t)) rs) r h.0 h.1
+entered_says cs m t rs a (Err r) h = sym (ap (reply_unless (enters (top_for m (thread_of m t)) rs)) h.0)
 
-pub entered_leaves : (cs : List Check) (m : List ℕ) (t : ℕ) (rs after : List ℕ) (r : Result Entry Refusal) → Entered cs m t rs after r →
+pub entered_leaves : (cs : List Check) (m : List ℕ) (t : ℕ) (rs after : List ℕ) (r : Result Entry Reason) → Entered cs m t rs after r →
     after ≡ unless (running_put m (Some t)) m (failing cs)
 entered_leaves cs m t rs a (Ok e) h = h.1 ∙ sym (ap (unless (running_put m (Some t)) m) h.0)
-entered_leaves cs m t rs a (Err r) h = h.2 ∙ sym (ap (unless (running_put m (Some t)) m) h.0)
+entered_leaves cs m t rs a (Err r) h = h.1 ∙ sym (ap (unless (running_put m (Some t)) m) h.0)
 
 -- one who calls runs
 pub calls_run : (m : List ℕ) (k : Caller) → caller m ≡ Some k → is_some (running_in m) ≡ true
@@ -74,7 +70,7 @@ module _ (m cs os : List ℕ) (q : Call) (f : fits q ≡ true) where
       pages = z ∙ ap (unless (system_pages cs os c) cs) (sym system_all) ∙ ap (leaves_pages m cs os) (sym e);
     }
 
-    pub done_does : (r : Result (Unit {0}) Refusal) (a : Answer) (after : List ℕ) → a ≡ done_by r →
+    pub done_does : (r : Result (Unit {0}) Reason) (a : Answer) (after : List ℕ) → a ≡ done_by r →
         Taken (system_checks m c) m (system_memory m os c) after r → system_reply m c ≡ done → cs ≡ system_pages cs os c →
         Does m cs os q a after cs
     done_does r a n d t x y =
@@ -83,7 +79,7 @@ module _ (m cs os : List ℕ) (q : Call) (f : fits q ≡ true) where
         (taken_leaves (system_checks m c) m (system_memory m os c) n r t)
         (same cs (failing (system_checks m c)) ∙ ap (λ z. unless z cs (failing (system_checks m c))) y)
 
-    pub entered_does : (t : ℕ) (rs : List ℕ) (r : Result Entry Refusal) (a : Answer) (after : List ℕ) → a ≡ entered_by r →
+    pub entered_does : (t : ℕ) (rs : List ℕ) (r : Result Entry Reason) (a : Answer) (after : List ℕ) → a ≡ entered_by r →
         Entered (system_checks m c) m t rs after r → system_reply m c ≡ enters (top_for m (thread_of m t)) rs →
         system_memory m os c ≡ running_put m (Some t) → cs ≡ system_pages cs os c → Does m cs os q a after cs
     entered_does t rs r a n d h x y z =
@@ -110,7 +106,7 @@ module _ (m cs os : List ℕ) (q : Call) (f : fits q ≡ true) where
           ∙ ap (leaves_pages m cs os) (sym e);
     }
 
-    pub told_does : (r : Result (Unit {0}) Refusal) (a : Answer) (after : List ℕ) → a ≡ told_by r →
+    pub told_does : (r : Result (Unit {0}) Reason) (a : Answer) (after : List ℕ) → a ≡ told_by r →
         Taken (cell_checks m k c) m (cell_memory m k c) after r →
         cell_reply m k c ≡ told (unwrap_or (failing (cell_checks m k c)) 0) [] → cs ≡ cell_pages cs c → Does m cs os q a after cs
     told_does r a n d t x y =

@@ -7,7 +7,7 @@ ghost use Rattle.full_monitor.specs.Limits.{Lent};
 ghost use Rattle.full_monitor.specs.Program.{fits, Does};
 
 use crate::answering::{refused, told};
-use answers::Answer;
+use answers::{Answer, Ending, Reason};
 use calls::Call;
 use fields::Numbers;
 use lookups::Caller;
@@ -29,21 +29,18 @@ pub fn by_cell(
     match call {
         Call::Leave { number } => {
             running::leave(memory, caller);
-            Answer::Left { how: 0, number }
+            Ending::Left { number }.into()
         }
         Call::Interrupt { registers } => {
             let Some(registers) = running::registers_from(registers) else {
                 unreachable()
             };
             running::interrupt(memory, caller, registers);
-            Answer::Left { how: 1, number: 0 }
+            Ending::Interrupted.into()
         }
         Call::Fault { kind } => {
             running::leave(memory, caller);
-            Answer::Left {
-                how: 2,
-                number: kind,
-            }
+            Ending::Faulted { kind }.into()
         }
         Call::Grow { page, place } => told(growing::grow(memory, closed, caller, page, place)),
         Call::Shrink { page, place } => told(growing::shrink(memory, caller, page, place)),
@@ -56,6 +53,6 @@ pub fn by_cell(
             error: 0,
             numbers: Numbers::One(number),
         },
-        _ => refused(14),
+        _ => refused(Reason::NotNow),
     }
 }

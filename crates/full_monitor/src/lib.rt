@@ -17,7 +17,7 @@ mod system;
 mod values;
 
 use answering::refused;
-use answers::{Answer, Refusal};
+use answers::{Answer, Reason, Refusal};
 use calls::Call;
 use cells::by_cell;
 use fields::Unwritten;
@@ -63,13 +63,13 @@ fn taken(memory: &mut [u64], closed: &mut [u32], open: &[u32], call: Call<'_>) -
     ensures { Does memory.old closed.old «open».now (call_of call.entry) (answer_of result) memory.new closed.new }
 {
     if !range::fits(call) {
-        return refused(2);
+        return refused(Reason::OutOfRange);
     }
     let Some(_) = full_pages::running(memory) else {
         return by_system(memory, closed, open, call);
     };
     let Some(caller) = lookups::who_calls(memory) else {
-        return refused(14);
+        return refused(Reason::NotNow);
     };
     by_cell(memory, closed, open, caller, call)
 }

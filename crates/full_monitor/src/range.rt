@@ -18,14 +18,13 @@ pub fn fits(call: Call<'_>) -> bool
     ensures { result ≡ fits (call_of call.entry) }
 {
     match call {
-        Call::NewThread { start, .. } => is_word(start),
-        Call::Hold { place, .. } => growing::in_range(place),
-        Call::Show { place, .. } => growing::in_range(place),
+        Call::Hold { place, .. } | Call::Show { place, .. } => growing::in_range(place),
         Call::Enter { x, y, z, .. } => is_word(x) && is_word(y) && is_word(z),
-        Call::Leave { number } => is_word(number),
         Call::Interrupt { registers } => running::registers_from(registers).is_some(),
-        Call::Fault { kind } => is_word(kind),
-        Call::Draw { number } => is_word(number),
+        Call::NewThread { start: number, .. }
+        | Call::Leave { number }
+        | Call::Fault { kind: number }
+        | Call::Draw { number } => is_word(number),
         _ => true,
     }
 }

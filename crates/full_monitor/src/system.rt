@@ -7,7 +7,7 @@ ghost use Rattle.full_monitor.specs.Limits.{Lent};
 ghost use Rattle.full_monitor.specs.Program.{fits, Does};
 
 use crate::answering::{done, entered, refused};
-use answers::Answer;
+use answers::{Answer, Reason};
 use calls::Call;
 
 // A call whose numbers are in range, while no cell runs: a cell's is refused then.
@@ -48,6 +48,6 @@ pub fn by_system(
             memory, thread, x as u32, y as u32, z as u32,
         )),
         Call::Resume { thread } => entered(running::resume(memory, thread)),
-        _ => refused(14),
+        _ => refused(Reason::NotNow),
     }
 }

@@ -10,7 +10,7 @@ ghost use Rattle.lookups.specs.Outcomes.{Checked, Taken};
 ghost use Rattle.growing.specs.Checks.{own_spare, own_held, in_range, grow_checks, shrink_checks, extend_checks};
 ghost use Rattle.growing.specs.Made.{grown, grown_pages, shrunk, extended};
 
-use answers::Refusal;
+use answers::Reason;
 use fields::Place;
 use full_pages::{Record, Slot};
 use lookups::Caller;
@@ -20,10 +20,7 @@ fn owns_spare(memory: &[u64], caller: Caller, page: u64) -> bool
     requires { Sized memory.now }
     ensures { result ≡ own_spare memory.now caller page }
 {
-    let Record::Spare { cell } = lookups::record_of(memory, page) else {
-        return false;
-    };
-    cell == caller.cell
+    matches!(lookups::record_of(memory, page), Record::Spare { cell } if cell == caller.cell)
 }
 
 // Whether a page is the caller's, and held.
@@ -31,10 +28,7 @@ fn holds(memory: &[u64], caller: Caller, page: u64) -> bool
     requires { Sized memory.now }
     ensures { result ≡ own_held memory.now caller page }
 {
-    let Record::Held { cell } = lookups::record_of(memory, page) else {
-        return false;
-    };
-    cell == caller.cell
+    matches!(lookups::record_of(memory, page), Record::Held { cell } if cell == caller.cell)
 }
 
 // Whether a place is one of a cell's tables.
@@ -45,7 +39,7 @@ pub fn in_range(place: Place) -> bool
 }
 
 // Whether a spare page of the caller may be held at a place; hands on the table that the place is in.
-fn may_grow(memory: &[u64], caller: Caller, page: u64, place: Place) -> Result<u64, Refusal>
+fn may_grow(memory: &[u64], caller: Caller, page: u64, place: Place) -> Result<u64, Reason>
     requires { (Sized memory.now) × (IsThere memory.now caller) }
     ensures { Checked (grow_checks memory.now caller page (place_of place))
         (λ table. (table ≡ unwrap_or (vacant memory.now caller.top (place_of place)) 0) × (table < slice_index memory.now 0)
@@ -53,13 +47,13 @@ fn may_grow(memory: &[u64], caller: Caller, page: u64, place: Place) -> Result<u
         × (place.slot < 1024)) result }
 {
     if !owns_spare(memory, caller, page) {
-        return Err(Refusal::by(3));
+        return Err(Reason::NotThere);
     }
     if !in_range(place) {
-        return Err(Refusal::by(8));
+        return Err(Reason::NotVacant);
     }
     let Some(table) = lookups::vacant(memory, caller.top, place) else {
-        return Err(Refusal::by(8));
+        return Err(Reason::NotVacant);
     };
     Ok(table)
 }
@@ -71,7 +65,7 @@ pub fn grow(
     caller: Caller,
     page: u64,
     place: Place,
-) -> Result<(), Refusal>
+) -> Result<(), Reason>
     requires { (Sized memory.old) × ((IsThere memory.old caller) × (length closed.old ≡ slice_index memory.old 0 * 1024)) }
     ensures memory { Taken (grow_checks memory.old caller page (place_of place)) memory.old
         (grown memory.old caller page (place_of place)) memory.new result }
@@ -85,7 +79,7 @@ pub fn grow(
 }
 
 // Whether a page of the caller is seen at a place; hands on the table that the place is in.
-fn may_shrink(memory: &[u64], caller: Caller, page: u64, place: Place) -> Result<u64, Refusal>
+fn may_shrink(memory: &[u64], caller: Caller, page: u64, place: Place) -> Result<u64, Reason>
     requires { (Sized memory.now) × (IsThere memory.now caller) }
     ensures { Checked (shrink_checks memory.now caller page (place_of place))
         (λ table. (table ≡ unwrap_or (showing memory.now caller.top (place_of place) page) 0) × (table < slice_index memory.now 0)
@@ -93,19 +87,19 @@ fn may_shrink(memory: &[u64], caller: Caller, page: u64, place: Place) -> Result
         × (place.slot < 1024)) result }
 {
     if !holds(memory, caller, page) {
-        return Err(Refusal::by(3));
+        return Err(Reason::NotThere);
     }
     if !in_range(place) {
-        return Err(Refusal::by(8));
+        return Err(Reason::NotVacant);
     }
     let Some(table) = lookups::showing(memory, caller.top, place, page) else {
-        return Err(Refusal::by(8));
+        return Err(Reason::NotVacant);
     };
     Ok(table)
 }
 
 // A page that the caller holds, and sees at a place, is spare, and seen no more.
-pub fn shrink(memory: &mut [u64], caller: Caller, page: u64, place: Place) -> Result<(), Refusal>
+pub fn shrink(memory: &mut [u64], caller: Caller, page: u64, place: Place) -> Result<(), Reason>
     requires { (Sized memory.old) × (IsThere memory.old caller) }
     ensures { Taken (shrink_checks memory.old caller page (place_of place)) memory.old
         (shrunk memory.old caller page (place_of place)) memory.new result }
@@ -117,25 +111,25 @@ pub fn shrink(memory: &mut [u64], caller: Caller, page: u64, place: Place) -> Re
 }
 
 // Whether a spare page of the caller may be a table, at a place of its top table.
-fn may_extend(memory: &[u64], caller: Caller, page: u64, index: u64) -> Result<(), Refusal>
+fn may_extend(memory: &[u64], caller: Caller, page: u64, index: u64) -> Result<(), Reason>
     requires { (Sized memory.now) × (IsThere memory.now caller) }
     ensures { Checked (extend_checks memory.now caller page index) (λ _. (page < slice_index memory.now 0) × (index
         < 256)) result }
 {
     if index >= 256 {
-        return Err(Refusal::by(8));
+        return Err(Reason::NotVacant);
     }
     if !owns_spare(memory, caller, page) {
-        return Err(Refusal::by(3));
+        return Err(Reason::NotThere);
     }
     let None = lookups::table_of(memory, caller.top, index) else {
-        return Err(Refusal::by(9));
+        return Err(Reason::PlaceInUse);
     };
     Ok(())
 }
 
 // A spare page of the caller becomes an empty table.
-pub fn extend(memory: &mut [u64], caller: Caller, page: u64, index: u64) -> Result<(), Refusal>
+pub fn extend(memory: &mut [u64], caller: Caller, page: u64, index: u64) -> Result<(), Reason>
     requires { (Sized memory.old) × (IsThere memory.old caller) }
     ensures { Taken (extend_checks memory.old caller page index) memory.old (extended memory.old caller page index) memory.new result }
 {

@@ -10,7 +10,7 @@ ghost use Rattle.lookups.specs.Outcomes.{Checked, Taken};
 ghost use Rattle.lifecycle.specs.Checks.{remove_checks, seal_checks, stop_checks};
 ghost use Rattle.lifecycle.specs.Made.{in_phase};
 
-use answers::Refusal;
+use answers::Reason;
 use full_pages::{Phase, Record};
 
 // Whether a page may be taken from the cell that it is a part of: that is stopped, or sealed, and the page is spare.
@@ -24,39 +24,34 @@ fn may_go(memory: &[u64], page: Record, owner: u64) -> bool
     };
     match cell.phase {
         Phase::Building => false,
-        Phase::Sealed => match page {
-            Record::Spare { .. } => true,
-            _ => false,
-        },
+        Phase::Sealed => matches!(page, Record::Spare { .. }),
         Phase::Stopped => true,
     }
 }
 
 // Whether a page may be removed.
-fn may_remove(memory: &[u64], page: u64) -> Result<(), Refusal>
+fn may_remove(memory: &[u64], page: u64) -> Result<(), Reason>
     requires { Sized memory.now }
     ensures { Checked (remove_checks memory.now page) (λ _. page < slice_index memory.now 0) result }
 {
     if page >= full_pages::pages(memory) {
-        return Err(Refusal::by(3));
+        return Err(Reason::NotThere);
     }
     let is = lookups::record_of(memory, page);
-    if let Record::Cell { .. } = is {
-        if lookups::has_parts(memory, page) {
-            return Err(Refusal::by(4));
-        }
+    if matches!(is, Record::Cell { .. }) && lookups::has_parts(memory, page) {
+        return Err(Reason::InUse);
     }
     let Some(owner) = lookups::part_of(is) else {
         return Ok(());
     };
     if !may_go(memory, is, owner) {
-        return Err(Refusal::by(10));
+        return Err(Reason::NotStopped);
     }
     Ok(())
 }
 
 // Removes a page: it is free. What words it has is left as it is.
-pub fn remove(memory: &mut [u64], page: u64) -> Result<(), Refusal>
+pub fn remove(memory: &mut [u64], page: u64) -> Result<(), Reason>
     requires { Sized memory.old }
     ensures { Taken (remove_checks memory.old page) memory.old (cleared memory.old page) memory.new result }
 {
@@ -66,27 +61,27 @@ pub fn remove(memory: &mut [u64], page: u64) -> Result<(), Refusal>
 }
 
 // Seals a cell: it is built, and its threads may run.
-pub fn seal(memory: &mut [u64], cell: u64) -> Result<(), Refusal>
+pub fn seal(memory: &mut [u64], cell: u64) -> Result<(), Reason>
     requires { Sized memory.old }
     ensures { Taken (seal_checks memory.old cell) memory.old (in_phase memory.old cell sealed) memory.new result }
 {
     let Some(has) = lookups::cell_of(memory, cell) else {
-        return Err(Refusal::by(5));
+        return Err(Reason::NoCell);
     };
     let Phase::Building = has.phase else {
-        return Err(Refusal::by(6));
+        return Err(Reason::NotBuilding);
     };
     full_pages::put_phase(memory, cell, Phase::Sealed);
     Ok(())
 }
 
 // Stops a cell: it runs no more, and may be taken apart.
-pub fn stop(memory: &mut [u64], cell: u64) -> Result<(), Refusal>
+pub fn stop(memory: &mut [u64], cell: u64) -> Result<(), Reason>
     requires { Sized memory.old }
     ensures { Taken (stop_checks memory.old cell) memory.old (in_phase memory.old cell stopped) memory.new result }
 {
     let Some(_) = lookups::cell_of(memory, cell) else {
-        return Err(Refusal::by(5));
+        return Err(Reason::NoCell);
     };
     full_pages::put_phase(memory, cell, Phase::Stopped);
     Ok(())

@@ -1,6 +1,7 @@
 -- Looking for a part of a cell, page by page.
-use Rattle.std.proofs.Common.{◌≡◌, ℕ, zero, suc, ◌+◌, ◌<◌, Bool, true, false, ◌||◌, eqb, List, sym, refl, ap, ◌∙◌, add-one, arith, eqb-true}
+use Rattle.std.proofs.Common.{◌≡◌, ℕ, zero, suc, ◌+◌, ◌<◌, Bool, true, false, ◌||◌, eqb, nat_eq, List, Some, None, Option, sym, refl, ap, ◌∙◌, add-one, arith, eqb-true}
 use borrow.Author.Tests.{eqb_apart, clash}
+use Rattle.std.specs.Option.{option_eq}
 use Rattle.lookups.specs.Lookups.{record_of, part_of, is_part, has_parts}
 
 no_more : (a b : Bool) → a ≡ false → b ≡ false → (a || b) ≡ false
@@ -13,6 +14,11 @@ found_right false b h = h
 found_left : (a b : Bool) → a ≡ true → (a || b) ≡ true
 found_left true b h = refl
 found_left false b h = absurd (clash h)
+
+-- the code's test of the cell that a page is a part of
+pub tested : (o : Option ℕ) (c : ℕ) → option_eq nat_eq o (Some c) ≡ is_part o c
+tested None c = refl
+tested (Some x) c = refl
 
 pub none_yet : (m : List ℕ) (c : ℕ) → has_parts 0 m c ≡ false
 unfolding has_parts

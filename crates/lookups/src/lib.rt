@@ -1,9 +1,10 @@
 // What the memory says of the pages that a call names.
 #![tactic(auto)]
 
-ghost use Rattle.std.specs.Prelude.{◌≡◌, ◌<◌, IfSome, OnSome, slice_index};
+ghost use Rattle.std.specs.Prelude.{◌≡◌, ◌<◌, None, Some, IfSome, MatchOption, OnSome, slice_index};
 ghost use Rattle.fields.specs.Shapes.{place_of};
-ghost use Rattle.full_pages.specs.Rows.{Sized};
+ghost use Rattle.full_pages.specs.Rows.{Sized, slot_in};
+ghost use Rattle.full_pages.specs.Meaning.{slot_of};
 ghost use Rattle.lookups.specs.Lookups.{there, record_of, part_of, cell_of, thread_of, table_of, vacant, showing};
 ghost use Rattle.lookups.specs.Lookups.{caller as caller_in, IsThere, has_parts};
 
@@ -49,13 +50,12 @@ pub fn part_of(page: Record) -> Option<u64>
     ensures { result ≡ part_of page }
 {
     match page {
-        Record::Free => None,
-        Record::Cell { .. } => None,
-        Record::Thread { cell, .. } => Some(cell),
-        Record::Top { cell } => Some(cell),
-        Record::Table { cell } => Some(cell),
-        Record::Held { cell } => Some(cell),
-        Record::Spare { cell } => Some(cell),
+        Record::Free | Record::Cell { .. } => None,
+        Record::Thread { cell, .. }
+        | Record::Top { cell }
+        | Record::Table { cell }
+        | Record::Held { cell }
+        | Record::Spare { cell } => Some(cell),
     }
 }
 
@@ -101,13 +101,22 @@ pub fn table_of(memory: &[u64], top: u64, index: u64) -> Option<u64>
     ensures value { result ≡ table_of memory.now top index }
     ensures there { IfSome result (λ q. q < slice_index memory.now 0) }
 {
-    let Some(table) = full_pages::table_at(memory, top, index) else {
-        return None;
-    };
+    let table = full_pages::table_at(memory, top, index)?;
     if table >= full_pages::pages(memory) {
         return None;
     }
     Some(table)
+}
+
+// The table that a place is in, and what its slot there has.
+fn seen_at(memory: &[u64], top: u64, place: Place) -> Option<(u64, Slot)>
+    requires { (Sized memory.now) × ((top < slice_index memory.now 0) × ((place.table < 256) × (place.slot < 1024))) }
+    ensures { MatchOption result (table_of memory.now top place.table ≡ None)
+        (λ x. (table_of memory.now top place.table ≡ Some x.0) × (slot_of x.1 ≡ slot_in memory.now x.0 place.slot)
+        × (x.0 < slice_index memory.now 0)) }
+{
+    let table = table_of(memory, top, place.table)?;
+    Some((table, full_pages::slot_at(memory, table, place.slot)))
 }
 
 // The table in which a place has nothing in its slot.
@@ -116,10 +125,8 @@ pub fn vacant(memory: &[u64], top: u64, place: Place) -> Option<u64>
     ensures value { result ≡ vacant memory.now top (place_of place) }
     ensures there { IfSome result (λ q. q < slice_index memory.now 0) }
 {
-    let Some(table) = table_of(memory, top, place.table) else {
-        return None;
-    };
-    let Slot::Nothing = full_pages::slot_at(memory, table, place.slot) else {
+    let (table, slot) = seen_at(memory, top, place)?;
+    let Slot::Nothing = slot else {
         return None;
     };
     Some(table)
@@ -131,10 +138,8 @@ pub fn showing(memory: &[u64], top: u64, place: Place, page: u64) -> Option<u64>
     ensures value { result ≡ showing memory.now top (place_of place) page }
     ensures there { IfSome result (λ q. q < slice_index memory.now 0) }
 {
-    let Some(table) = table_of(memory, top, place.table) else {
-        return None;
-    };
-    let Slot::Closed { page: shown, .. } = full_pages::slot_at(memory, table, place.slot) else {
+    let (table, slot) = seen_at(memory, top, place)?;
+    let Slot::Closed { page: shown, .. } = slot else {
         return None;
     };
     if shown != page {
@@ -149,29 +154,21 @@ pub fn who_calls(memory: &[u64]) -> Option<Caller>
     ensures value { result ≡ caller_in memory.now }
     ensures there { IfSome result (IsThere memory.now) }
 {
-    let Some(thread) = full_pages::running(memory) else {
-        return None;
-    };
-    let Some(cell) = part_of(record_of(memory, thread)) else {
-        return None;
-    };
-    let Some(Cell { top, .. }) = cell_of(memory, cell) else {
-        return None;
-    };
+    let thread = full_pages::running(memory)?;
+    let cell = part_of(record_of(memory, thread))?;
+    let Cell { top, .. } = cell_of(memory, cell)?;
     Some(Caller { thread, cell, top })
 }
 
-// Whether a cell has pages besides its first: they are looked for page by page.
+// Whether a cell has pages besides its first. Where something is looked for page by page, the project wants a loop that is left from inside
+// by a label.
 pub fn has_parts(memory: &[u64], cell: u64) -> bool
     requires { Sized memory.now }
     ensures { result ≡ has_parts (slice_index memory.now 0) memory.now cell }
 {
     let mut found = false;
     'pages: for page in 0..full_pages::pages(memory) {
-        let Some(owner) = part_of(record_of(memory, page)) else {
-            continue 'pages;
-        };
-        if owner == cell {
+        if part_of(record_of(memory, page)) == Some(cell) {
             found = true;
             break 'pages;
         }

@@ -1,6 +1,7 @@
 -- What is entered, and what the ends of runs make of the memory.
 use Rattle.std.specs.Prelude.{◌≡◌, ℕ, ◌%◌, Bool, List, [], ◌∷◌, ◌++◌, replicate, Some, None, Ok, Err, Option, Result}
-use Rattle.answers.specs.declared.answer.Refusal.{Refusal}
+use Rattle.answers.specs.Reasons.{number_of}
+use Rattle.answers.specs.declared.reason.Reason.{Reason}
 use Rattle.full_pages.specs.Rows.{thread_put, running_put, numbers_at, low_words}
 use Rattle.model.specs.Refusals.{Check, failing}
 use Rattle.lookups.specs.Lookups.{cell_of, thread_of, top_of}
@@ -24,10 +25,10 @@ abbrev pub kept_registers : List ℕ → ℕ → List ℕ
 kept_registers m t = low_words (numbers_at m t 4 17)
 
 -- a thread that is entered runs; its cell's top table and its registers are handed on
-abbrev pub Entered : List Check → List ℕ → ℕ → List ℕ → List ℕ → Result Entry Refusal → Type 0
+abbrev pub Entered : List Check → List ℕ → ℕ → List ℕ → List ℕ → Result Entry Reason → Type 0
 Entered cs m t rs after (Ok e) =
     (failing cs ≡ None) × (after ≡ running_put m (Some t)) × (e.top ≡ top_for m (thread_of m t)) × (e.registers.words ≡ rs)
-Entered cs m t rs after (Err r) = (failing cs ≡ Some r.number) × (r.place ≡ 0) × (after ≡ m)
+Entered cs m t rs after (Err r) = (failing cs ≡ Some (number_of r)) × (after ≡ m)
 
 -- a thread's run ends: it is under way or not, with registers, and none runs
 abbrev pub run_ended : List ℕ → ℕ → Bool → List ℕ → List ℕ

@@ -11,7 +11,7 @@ ghost use Rattle.running.specs.Made.{first_registers, kept_registers, Entered, r
 
 mod registers;
 
-use answers::Refusal;
+use answers::Reason;
 use fields::Registers;
 use full_pages::Phase;
 use lookups::{Caller, Cell, Thread};
@@ -32,9 +32,7 @@ fn sealed_cell(memory: &[u64], thread: Thread) -> Option<Cell>
     ensures { result ≡ cond (is_sealed (cell_of memory.now thread.cell)) (cell_of memory.now thread.cell)
         None }
 {
-    let Some(cell) = lookups::cell_of(memory, thread.cell) else {
-        return None;
-    };
+    let cell = lookups::cell_of(memory, thread.cell)?;
     let Phase::Sealed = cell.phase else {
         return None;
     };
@@ -54,18 +52,18 @@ fn first_registers(start: u64, x: u32, y: u32, z: u32) -> Registers
 }
 
 // Enters a thread, with three numbers.
-pub fn enter(memory: &mut [u64], thread: u64, x: u32, y: u32, z: u32) -> Result<Entry, Refusal>
+pub fn enter(memory: &mut [u64], thread: u64, x: u32, y: u32, z: u32) -> Result<Entry, Reason>
     requires { Sized memory.old }
     ensures { Entered (enter_checks memory.old thread) memory.old thread (first_registers memory.old thread x y z) memory.new result }
 {
     let Some(has) = lookups::thread_of(memory, thread) else {
-        return Err(Refusal::by(3));
+        return Err(Reason::NotThere);
     };
     let Some(cell) = sealed_cell(memory, has) else {
-        return Err(Refusal::by(7));
+        return Err(Reason::NotSealed);
     };
     if has.under_way {
-        return Err(Refusal::by(11));
+        return Err(Reason::UnderWay);
     }
     full_pages::put_running(memory, Some(thread));
     Ok(Entry {
@@ -75,18 +73,18 @@ pub fn enter(memory: &mut [u64], thread: u64, x: u32, y: u32, z: u32) -> Result<
 }
 
 // Resumes a thread that was interrupted, with the registers that it had.
-pub fn resume(memory: &mut [u64], thread: u64) -> Result<Entry, Refusal>
+pub fn resume(memory: &mut [u64], thread: u64) -> Result<Entry, Reason>
     requires { Sized memory.old }
     ensures { Entered (resume_checks memory.old thread) memory.old thread (kept_registers memory.old thread) memory.new result }
 {
     let Some(has) = lookups::thread_of(memory, thread) else {
-        return Err(Refusal::by(3));
+        return Err(Reason::NotThere);
     };
     let Some(cell) = sealed_cell(memory, has) else {
-        return Err(Refusal::by(7));
+        return Err(Reason::NotSealed);
     };
     if !has.under_way {
-        return Err(Refusal::by(12));
+        return Err(Reason::NotUnderWay);
     }
     let registers = full_pages::registers_at(memory, thread);
     full_pages::put_running(memory, Some(thread));

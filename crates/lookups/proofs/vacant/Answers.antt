@@ -1,20 +1,15 @@
-use Rattle.std.proofs.Common.{true, false, ap}
-use Rattle.model.specs.Pages.{is_nothing}
-use Rattle.full_pages.specs.Meaning.{slot_of}
-use Rattle.lookups.proofs.Slots.{something, empty_is}
+use Rattle.fields.specs.Shapes.{place_of}
+use Rattle.lookups.proofs.Slots.{in_use, empty}
 use Rattle.lookups.proofs.vacant.Goals as goal
 
-pub returns-in_default-slot_at : goal.returns-in_default-slot_at
-returns-in_default-slot_at c = record {
-  value = empty_is c.args.memory.now c.args.place.slot c.in-Some.table _ c.slot_at.result false
-      c.in-Some.ensures.value c.slot_at.ensures (something c.slot_at.result c.in_default-slot_at.not-Nothing);
-  there = tt;
-}
+pub returns-in_default : goal.returns-in_default
+returns-in_default c =
+    let seen = c.in_ok-table.ensures in record {
+      value = in_use c.args.memory.now c.args.top (place_of c.args.place) _ _ seen.0 seen.1 c.in_default.not-Nothing;
+      there = tt;
+    }
 
-pub returns : goal.returns
-unfolding is_nothing
-returns c = record {
-  value = empty_is c.args.memory.now c.args.place.slot c.in-Some.table _ c.slot_at.result true
-      c.in-Some.ensures.value c.slot_at.ensures (ap (λ z. is_nothing (slot_of z)) c.in-Nothing.is);
-  there = c.in-Some.ensures.there;
-}
+pub returns-clause-value : goal.returns-clause-value
+returns-clause-value c =
+    let seen = c.in_ok-table.ensures in
+    empty c.args.memory.now c.args.top (place_of c.args.place) _ _ seen.0 seen.1 c.in-Nothing.is

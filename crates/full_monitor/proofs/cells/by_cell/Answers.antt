@@ -1,5 +1,6 @@
 use Rattle.std.proofs.Common.{true, refl, ap, ◌∙◌}
 use Rattle.fields.specs.Shapes.{place_of, numbers_of}
+use Rattle.answers.specs.Meaning.{answer_of}
 use Rattle.calls.specs.Meaning.{call_of}
 use Rattle.model.specs.Answers.{told}
 use Rattle.model.specs.Calls.{leave, interrupt, fault, grow, shrink, extend, who, draw}
@@ -12,18 +13,19 @@ use Rattle.full_monitor.proofs.cells.by_cell.Goals as goal
 pub returns-in-Leave : goal.returns-in-Leave
 returns-in-Leave c =
     cell_does c.args.memory.now c.args.closed.now c.args.open.now (call_of c.args.call) c.requires.fits c.args.caller
-    (leave c.in-Leave.number) (ap call_of c.in-Leave.is) c.requires.calls _ _ _ refl c.leave.ensures refl
+    (leave c.in-Leave.number) (ap call_of c.in-Leave.is) c.requires.calls _ _ _ (ap answer_of c.into.ensures) c.leave.ensures refl
 
 pub returns-in-Some : goal.returns-in-Some
 returns-in-Some c =
     cell_does c.args.memory.now c.args.closed.now c.args.open.now (call_of c.args.call) c.requires.fits c.args.caller
-    (interrupt (numbers_of c.in-Interrupt.registers)) (ap call_of c.in-Interrupt.is) c.requires.calls _ _ _ refl
+    (interrupt (numbers_of c.in-Interrupt.registers)) (ap call_of c.in-Interrupt.is) c.requires.calls _ _ _ (ap answer_of c.into-in-Interrupt.ensures)
     (c.interrupt.ensures ∙ ap (run_ended c.args.memory.now c.args.caller.thread true) c.in-Some.ensures.1) refl
 
 pub returns-in-Fault : goal.returns-in-Fault
 returns-in-Fault c =
     cell_does c.args.memory.now c.args.closed.now c.args.open.now (call_of c.args.call) c.requires.fits c.args.caller
-    (fault c.in-Fault.kind) (ap call_of c.in-Fault.is) c.requires.calls _ _ _ refl c.leave-in-Fault.ensures refl
+    (fault c.in-Fault.kind) (ap call_of c.in-Fault.is) c.requires.calls _ _ _ (ap answer_of c.into-in-Fault.ensures)
+    c.leave-in-Fault.ensures refl
 
 pub returns-in-Grow : goal.returns-in-Grow
 returns-in-Grow c =
