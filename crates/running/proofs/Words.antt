@@ -1,7 +1,9 @@
 -- Numbers that are words, one by one.
-use Rattle.std.proofs.Common.{◌≡◌, ℕ, zero, suc, ◌+◌, ◌<◌, Bool, true, false, ◌&&◌, List, [], ◌∷◌, ◌++◌, length, take, set, Some, None, sym, refl, ap, ◌∙◌, add-one, arith}
+use Rattle.std.proofs.Common.{◌≡◌, ℕ, zero, suc, ◌+◌, ◌<◌, Bool, true, false, ◌&&◌, List, [], ◌∷◌, ◌++◌, length, take, drop, set, Some, None, Ok, Err, Result, sym, refl, ap, ◌∙◌, add-one, arith, lt-ltb, le-ltb}
 use Rattle.std.specs.List.{slice_get}
-use Rattle.std.proofs.lemmas.List.{take_more_set}
+use Rattle.std.specs.Result.{OkIff, result_ok}
+use Rattle.std.proofs.lemmas.List.{take_more_set, drop_more, length-drop}
+use Rattle.std.proofs.lemmas.Option.{slice_get-get_or}
 use Rattle.std.proofs.lemmas.Bool.{and_parts, and_from}
 use Rattle.model.specs.State.{word, all_words}
 
@@ -40,7 +42,18 @@ pub read_more : (got ns : List ℕ) (i n : ℕ) → i < length got → slice_get
 read_more got ns i n h e q =
     take_more_set got i n h ∙ ap (λ xs. xs ++ (n ∷ [])) q ∙ sym (ap (λ k. take k ns) (add-one i) ∙ more ns i n e)
 
-pub none_read : (ns : List ℕ) (i : ℕ) → i < length ns → slice_get ns i ≡ None → ⊥
-none_read [] i h e = omega arith
-none_read (x ∷ ns) zero h e = let z : ◌≡◌ {A = ℕ} 0 1 = cc in omega arith
-none_read (x ∷ ns) (suc i) h e = none_read ns i (omega arith) e
+-- the first of those from i on
+pub next_is : (ns : List ℕ) (i n : ℕ) (rest : List ℕ) → drop i ns ≡ n ∷ rest → (slice_get ns i ≡ Some n) × (rest ≡ drop (i + 1) ns)
+next_is ns i n rest h =
+    let long : i < length ns = omega (arith, ap length h, length-drop i ns) in
+    let here = sym (drop_more ns i n long) ∙ h in
+    (slice_get-get_or ns i n long ∙ ap Some (grind (arith, here)), grind (arith, here))
+
+-- a number that is a word, or not, by the conversion
+pub is_word : {E : Type 0} (r : Result ℕ E) (n w : ℕ) → OkIff r (n < 4294967296) n → Some w ≡ result_ok r → (w ≡ n) × (word n ≡ true)
+is_word (Ok x) n w h e = let q : w ≡ x = cc in (q ∙ h.1, lt-ltb _ _ h.0)
+is_word (Err e) n w h q = absurd (grind (arith, q))
+
+pub no_word : {E : Type 0} (r : Result ℕ E) (n : ℕ) → OkIff r (n < 4294967296) n → None ≡ result_ok r → word n ≡ false
+no_word (Ok x) n h q = absurd (grind (arith, q))
+no_word (Err e) n h q = le-ltb _ _ (omega (arith, h))

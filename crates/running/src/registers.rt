@@ -13,15 +13,10 @@ pub fn registers_from(numbers: Numbers<'_>) -> Option<Registers>
     if numbers.len() != 17 {
         return None;
     }
+    let mut rest = numbers.iter();
     let mut words = [0; 17];
-    for i in 0..17 {
-        let Some(number) = numbers.at(i) else {
-            return None;
-        };
-        if number >= 4294967296 {
-            return None;
-        }
-        words[i] = number as u32;
+    for word in &mut words {
+        *word = u32::try_from(rest.next()?).ok()?;
     }
     Some(Registers { words })
 }

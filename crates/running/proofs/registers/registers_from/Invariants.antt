@@ -1,9 +1,10 @@
-use Rattle.std.proofs.Common.{◌≡◌, true, length, take}
+use Rattle.std.proofs.Common.{◌≡◌, true, length, take, drop}
 use Rattle.fields.specs.Shapes.{numbers_of}
 use Rattle.model.specs.State.{all_words}
 use Rattle.running.proofs.registers.registers_from.Given as goal
 
-abbrev pub invariant-loop-i : goal.invariant-loop-i
-invariant-loop-i l =
-    (take l.i l.words ≡ take l.i (numbers_of l.numbers)) × (length l.words ≡ 17)
-    × (all_words (take l.i (numbers_of l.numbers)) ≡ true)
+abbrev pub invariant-loop-word : goal.invariant-loop-word
+invariant-loop-word l =
+    (l.rest ≡ drop l.word-index (numbers_of l.fn.numbers)) × (length l.word-items ≡ 17)
+    × (take l.word-index l.word-items ≡ take l.word-index (numbers_of l.fn.numbers))
+    × (all_words (take l.word-index (numbers_of l.fn.numbers)) ≡ true)
