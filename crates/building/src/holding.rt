@@ -11,6 +11,7 @@ use crate::free::free_page;
 use answers::Reason;
 use fields::Place;
 use full_pages::{Phase, Record, Slot};
+use lookups::InRange;
 use sha256::Measure;
 
 // Whether an open page is there, or none is asked for.
@@ -26,12 +27,12 @@ fn may_hold(
     memory: &[u64],
     page: u64,
     cell: u64,
-    place: Place,
+    at: InRange,
     source: Option<u64>,
 ) -> Result<u64, Reason>
-    requires { (Sized memory.now) × ((place.table < 256) × (place.slot < 1024)) }
-    ensures { Checked (hold_checks memory.now page cell (place_of place) source)
-        (λ table. (table ≡ table_for memory.now cell (place_of place)) × (table < slice_index memory.now 0)
+    requires { Sized memory.now }
+    ensures { Checked (hold_checks memory.now page cell (place_of at.place) source)
+        (λ table. (table ≡ table_for memory.now cell (place_of at.place)) × (table < slice_index memory.now 0)
         × (page < slice_index memory.now 0)
         × (cell < slice_index memory.now 0) × (source_there memory.now source ≡ true)) result }
 {
@@ -41,7 +42,7 @@ fn may_hold(
     let Phase::Building = has.phase else {
         return Err(Reason::NotBuilding);
     };
-    let Some(table) = lookups::vacant(memory, has.top, place) else {
+    let Some(table) = lookups::vacant(memory, has.top, at) else {
         return Err(Reason::NotVacant);
     };
     if !may_copy(memory, source) {
@@ -81,12 +82,12 @@ fn fill(closed: &mut [u32], page: u64, open: &[u32], source: Option<u64>)
 }
 
 // What was measured of a cell, and then a held page: 4, its place, and its words.
-fn measured(memory: &[u64], cell: u64, place: Place, words: &[u32]) -> Measure
-    requires { (HasPage memory.now cell) × ((place.table < 256) × ((place.slot < 1024) × (length words.now ≡ 1024))) }
-    ensures { result ≡ held_measure memory.now cell (place_of place) words.now }
+fn measured(memory: &[u64], cell: u64, at: InRange, words: &[u32]) -> Measure
+    requires { (HasPage memory.now cell) × (length words.now ≡ 1024) }
+    ensures { result ≡ held_measure memory.now cell (place_of at.place) words.now }
 {
     full_pages::measure_at(memory, cell)
-        .two_words(4, full_pages::place_word(place))
+        .two_words(4, full_pages::place_word(at.place))
         .page(words)
 }
 
@@ -97,20 +98,20 @@ pub fn hold(
     open: &[u32],
     page: u64,
     cell: u64,
-    place: Place,
+    at: InRange,
     source: Option<u64>,
 ) -> Result<(), Reason>
-    requires sized { (Sized memory.old) × ((place.table < 256) × (place.slot < 1024)) }
+    requires sized { Sized memory.old }
     requires closed_len { (length closed.old ≡ slice_index memory.old 0 * 1024) × (length «open».now ≡ slice_index memory.old 1 * 1024) }
-    ensures memory { Taken (hold_checks memory.old page cell (place_of place) source) memory.old
-        (held_memory memory.old «open».now page cell (place_of place) source) memory.new result }
-    ensures closed { Taken (hold_checks memory.old page cell (place_of place) source) closed.old
+    ensures memory { Taken (hold_checks memory.old page cell (place_of at.place) source) memory.old
+        (held_memory memory.old «open».now page cell (place_of at.place) source) memory.new result }
+    ensures closed { Taken (hold_checks memory.old page cell (place_of at.place) source) closed.old
         (held_pages closed.old «open».now page source) closed.new result }
 {
-    let table = may_hold(memory, page, cell, place, source)?;
+    let table = may_hold(memory, page, cell, at, source)?;
     fill(closed, page, open, source);
-    let measure = measured(memory, cell, place, full_pages::page_at(closed, page));
-    become_held(memory, page, cell, table, place);
+    let measure = measured(memory, cell, at, full_pages::page_at(closed, page));
+    become_held(memory, page, cell, table, at.place);
     full_pages::put_measure(memory, cell, measure);
     Ok(())
 }

@@ -9,8 +9,8 @@ ghost use Rattle.building.specs.Made.{made_table, table_for, shown};
 
 use crate::free::free_page;
 use answers::Reason;
-use fields::Place;
 use full_pages::{Phase, Record, Slot};
+use lookups::InRange;
 
 // Whether a page may be a table of a cell, at a place of its top table; hands on the top table's page.
 fn may_add(memory: &[u64], page: u64, cell: u64, index: u64) -> Result<u64, Reason>
@@ -59,10 +59,10 @@ pub fn new_table(memory: &mut [u64], page: u64, cell: u64, index: u64) -> Result
 }
 
 // Whether a cell may be shown an open page at a place; hands on the table that the place is in.
-fn may_show(memory: &[u64], open: u64, cell: u64, place: Place) -> Result<u64, Reason>
-    requires { (Sized memory.now) × ((place.table < 256) × (place.slot < 1024)) }
-    ensures { Checked (show_checks memory.now «open» cell (place_of place))
-        (λ table. (table ≡ table_for memory.now cell (place_of place)) × (table < slice_index memory.now 0)
+fn may_show(memory: &[u64], open: u64, cell: u64, at: InRange) -> Result<u64, Reason>
+    requires { Sized memory.now }
+    ensures { Checked (show_checks memory.now «open» cell (place_of at.place))
+        (λ table. (table ≡ table_for memory.now cell (place_of at.place)) × (table < slice_index memory.now 0)
         × («open» < slice_index memory.now 1)) result }
 {
     let Some(cell) = lookups::cell_of(memory, cell) else {
@@ -71,7 +71,7 @@ fn may_show(memory: &[u64], open: u64, cell: u64, place: Place) -> Result<u64, R
     let Phase::Building = cell.phase else {
         return Err(Reason::NotBuilding);
     };
-    let Some(table) = lookups::vacant(memory, cell.top, place) else {
+    let Some(table) = lookups::vacant(memory, cell.top, at) else {
         return Err(Reason::NotVacant);
     };
     if open >= full_pages::opens(memory) {
@@ -81,19 +81,19 @@ fn may_show(memory: &[u64], open: u64, cell: u64, place: Place) -> Result<u64, R
 }
 
 // Shows a cell an open page, which is never run.
-pub fn show(memory: &mut [u64], open: u64, cell: u64, place: Place) -> Result<(), Reason>
-    requires { (Sized memory.old) × ((place.table < 256) × (place.slot < 1024)) }
-    ensures { Taken (show_checks memory.old «open» cell (place_of place)) memory.old
-        (shown memory.old «open» cell (place_of place)) memory.new result }
+pub fn show(memory: &mut [u64], open: u64, cell: u64, at: InRange) -> Result<(), Reason>
+    requires { Sized memory.old }
+    ensures { Taken (show_checks memory.old «open» cell (place_of at.place)) memory.old
+        (shown memory.old «open» cell (place_of at.place)) memory.new result }
 {
-    let table = may_show(memory, open, cell, place)?;
+    let table = may_show(memory, open, cell, at)?;
     full_pages::put_slot(
         memory,
         table,
-        place.slot,
+        at.place.slot,
         Slot::Opened {
             page: open,
-            write: place.write,
+            write: at.place.write,
         },
     );
     Ok(())

@@ -9,6 +9,7 @@ ghost use Rattle.full_monitor.specs.Program.{fits, Does};
 use crate::answering::{done, entered, refused};
 use answers::{Answer, Reason};
 use calls::Call;
+use lookups::InRange;
 
 // A call whose numbers are in range, while no cell runs: a cell's is refused then.
 pub fn by_system(
@@ -38,9 +39,14 @@ pub fn by_system(
             cell,
             place,
             source,
-        } => done(building::hold(memory, closed, open, page, cell, place, source)),
+        } => {
+            let at = InRange { place };
+            done(building::hold(memory, closed, open, page, cell, at, source))
+        }
         Call::Give { page, cell } => done(building::give(memory, page, cell)),
-        Call::Show { open, cell, place } => done(building::show(memory, open, cell, place)),
+        Call::Show { open, cell, place } => {
+            done(building::show(memory, open, cell, InRange { place }))
+        }
         Call::Remove { page } => done(lifecycle::remove(memory, page)),
         Call::Seal { cell } => done(lifecycle::seal(memory, cell)),
         Call::Stop { cell } => done(lifecycle::stop(memory, cell)),

@@ -13,7 +13,7 @@ ghost use Rattle.growing.specs.Made.{grown, grown_pages, shrunk, extended};
 use answers::Reason;
 use fields::Place;
 use full_pages::{Record, Slot};
-use lookups::Caller;
+use lookups::{Caller, InRange};
 
 // Whether a page is the caller's, and spare.
 fn owns_spare(memory: &[u64], caller: Caller, page: u64) -> bool
@@ -35,7 +35,7 @@ fn holds(memory: &[u64], caller: Caller, page: u64) -> bool
 pub fn in_range(place: Place) -> bool
     ensures { result ≡ in_range (place_of place) }
 {
-    place.table < 256 && place.slot < 1024
+    InRange::of(place).is_some()
 }
 
 // Whether a spare page of the caller may be held at a place; hands on the table that the place is in.
@@ -49,10 +49,10 @@ fn may_grow(memory: &[u64], caller: Caller, page: u64, place: Place) -> Result<u
     if !owns_spare(memory, caller, page) {
         return Err(Reason::NotThere);
     }
-    if !in_range(place) {
+    let Some(at) = InRange::of(place) else {
         return Err(Reason::NotVacant);
-    }
-    let Some(table) = lookups::vacant(memory, caller.top, place) else {
+    };
+    let Some(table) = lookups::vacant(memory, caller.top, at) else {
         return Err(Reason::NotVacant);
     };
     Ok(table)
@@ -89,10 +89,10 @@ fn may_shrink(memory: &[u64], caller: Caller, page: u64, place: Place) -> Result
     if !holds(memory, caller, page) {
         return Err(Reason::NotThere);
     }
-    if !in_range(place) {
+    let Some(at) = InRange::of(place) else {
         return Err(Reason::NotVacant);
-    }
-    let Some(table) = lookups::showing(memory, caller.top, place, page) else {
+    };
+    let Some(table) = lookups::showing(memory, caller.top, at, page) else {
         return Err(Reason::NotVacant);
     };
     Ok(table)

@@ -1,6 +1,8 @@
 // What the memory says of the pages that a call names.
 #![tactic(auto)]
 
+mod in_range;
+
 ghost use Rattle.std.specs.Prelude.{◌≡◌, ◌<◌, None, Some, IfSome, MatchOption, OnSome, slice_index};
 ghost use Rattle.fields.specs.Shapes.{place_of};
 ghost use Rattle.full_pages.specs.Rows.{Sized, slot_in};
@@ -8,8 +10,8 @@ ghost use Rattle.full_pages.specs.Meaning.{slot_of};
 ghost use Rattle.lookups.specs.Lookups.{there, record_of, part_of, cell_of, thread_of, table_of, vacant, showing};
 ghost use Rattle.lookups.specs.Lookups.{caller as caller_in, IsThere, has_parts};
 
-use fields::Place;
 use full_pages::{Phase, Record, Slot};
+pub use in_range::InRange;
 
 // What the first page of a cell has.
 #[derive(Clone, Copy)]
@@ -109,23 +111,23 @@ pub fn table_of(memory: &[u64], top: u64, index: u64) -> Option<u64>
 }
 
 // The table that a place is in, and what its slot there has.
-fn seen_at(memory: &[u64], top: u64, place: Place) -> Option<(u64, Slot)>
-    requires { (Sized memory.now) × ((top < slice_index memory.now 0) × ((place.table < 256) × (place.slot < 1024))) }
-    ensures { MatchOption result (table_of memory.now top place.table ≡ None)
-        (λ x. (table_of memory.now top place.table ≡ Some x.0) × (slot_of x.1 ≡ slot_in memory.now x.0 place.slot)
+fn seen_at(memory: &[u64], top: u64, at: InRange) -> Option<(u64, Slot)>
+    requires { (Sized memory.now) × (top < slice_index memory.now 0) }
+    ensures { MatchOption result (table_of memory.now top at.place.table ≡ None)
+        (λ x. (table_of memory.now top at.place.table ≡ Some x.0) × (slot_of x.1 ≡ slot_in memory.now x.0 at.place.slot)
         × (x.0 < slice_index memory.now 0)) }
 {
-    let table = table_of(memory, top, place.table)?;
-    Some((table, full_pages::slot_at(memory, table, place.slot)))
+    let table = table_of(memory, top, at.place.table)?;
+    Some((table, full_pages::slot_at(memory, table, at.place.slot)))
 }
 
 // The table in which a place has nothing in its slot.
-pub fn vacant(memory: &[u64], top: u64, place: Place) -> Option<u64>
-    requires { (Sized memory.now) × ((top < slice_index memory.now 0) × ((place.table < 256) × (place.slot < 1024))) }
-    ensures value { result ≡ vacant memory.now top (place_of place) }
+pub fn vacant(memory: &[u64], top: u64, at: InRange) -> Option<u64>
+    requires { (Sized memory.now) × (top < slice_index memory.now 0) }
+    ensures value { result ≡ vacant memory.now top (place_of at.place) }
     ensures there { IfSome result (λ q. q < slice_index memory.now 0) }
 {
-    let (table, slot) = seen_at(memory, top, place)?;
+    let (table, slot) = seen_at(memory, top, at)?;
     let Slot::Nothing = slot else {
         return None;
     };
@@ -133,12 +135,12 @@ pub fn vacant(memory: &[u64], top: u64, place: Place) -> Option<u64>
 }
 
 // The table in which a place shows a closed page.
-pub fn showing(memory: &[u64], top: u64, place: Place, page: u64) -> Option<u64>
-    requires { (Sized memory.now) × ((top < slice_index memory.now 0) × ((place.table < 256) × (place.slot < 1024))) }
-    ensures value { result ≡ showing memory.now top (place_of place) page }
+pub fn showing(memory: &[u64], top: u64, at: InRange, page: u64) -> Option<u64>
+    requires { (Sized memory.now) × (top < slice_index memory.now 0) }
+    ensures value { result ≡ showing memory.now top (place_of at.place) page }
     ensures there { IfSome result (λ q. q < slice_index memory.now 0) }
 {
-    let (table, slot) = seen_at(memory, top, place)?;
+    let (table, slot) = seen_at(memory, top, at)?;
     let Slot::Closed { page: shown, .. } = slot else {
         return None;
     };
