@@ -78,7 +78,7 @@ pub fn new_thread(memory: &mut [u64], page: u64, cell: u64, start: u32) -> Resul
         page,
         Record::Thread {
             cell,
-            start: start as u64,
+            start: u64::from(start),
             under_way: false,
         },
     );

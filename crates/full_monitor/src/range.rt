@@ -10,7 +10,7 @@ use calls::Call;
 fn is_word(number: u64) -> bool
     ensures { result ≡ word number }
 {
-    number < 4294967296
+    u32::try_from(number).is_ok()
 }
 
 // Words are words, there are seventeen registers, and the places where pages are put are of a cell's tables.

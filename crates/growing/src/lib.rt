@@ -15,7 +15,7 @@ use fields::Place;
 use full_pages::{Record, Slot};
 use lookups::{Caller, InRange};
 
-// Whether a page is the caller's, and spare.
+// Whether a page is the caller's, and spare. This and the next are two functions, for a pattern cannot be handed on.
 fn owns_spare(memory: &[u64], caller: Caller, page: u64) -> bool
     requires { Sized memory.now }
     ensures { result ≡ own_spare memory.now caller page }
@@ -78,7 +78,8 @@ pub fn grow(
     Ok(())
 }
 
-// Whether a page of the caller is seen at a place; hands on the table that the place is in.
+// Whether a page of the caller is seen at a place; hands on the table that the place is in. The checks stand in line, as those of growing
+// do: one function for both would have to take the first and the last of them as closures.
 fn may_shrink(memory: &[u64], caller: Caller, page: u64, place: Place) -> Result<u64, Reason>
     requires { (Sized memory.now) × (IsThere memory.now caller) }
     ensures { Checked (shrink_checks memory.now caller page (place_of place))

@@ -1,4 +1,5 @@
-// What the memory says of the pages that a call names.
+// What the memory says of the pages that a call names. The memory is lent as a slice of numbers, through the C interface, and so each
+// function says that it is as long as it should be.
 #![tactic(auto)]
 
 mod in_range;
@@ -28,7 +29,8 @@ pub struct Thread {
     pub under_way: bool,
 }
 
-// Who calls: the thread that runs, its cell, and that cell's top table.
+// Who calls: the thread that runs, its cell, and that cell's top table. That its pages are there depends on the memory, and so it is said
+// beside it, and not in the type.
 #[derive(Clone, Copy)]
 pub struct Caller {
     pub thread: u64,

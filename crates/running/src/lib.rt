@@ -72,7 +72,7 @@ pub fn enter(memory: &mut [u64], thread: u64, x: u32, y: u32, z: u32) -> Result<
     })
 }
 
-// Resumes a thread that was interrupted, with the registers that it had.
+// Resumes a thread that was interrupted, with the registers that it had. Its checks stand in line, in their order, as those of entering do.
 pub fn resume(memory: &mut [u64], thread: u64) -> Result<Entry, Reason>
     requires { Sized memory.old }
     ensures { Entered (resume_checks memory.old thread) memory.old thread (kept_registers memory.old thread) memory.new result }
