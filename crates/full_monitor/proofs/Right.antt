@@ -13,7 +13,7 @@ use Rattle.full_pages.specs.Layout.{encode}
 use Rattle.lookups.proofs.Right.{Known}
 use Rattle.full_monitor.specs.Program.{says, leaves, leaves_pages}
 use Rattle.full_monitor.specs.Called.{Slices, Called, Runs, Refines}
-use Rattle.full_monitor.specs.declared.values.Reply.{Reply}
+use Rattle.monitor.specs.declared.values.Reply.{Reply}
 use Rattle.full_monitor.proofs.RightSystem.{says_system, leaves_system, pages_system}
 use Rattle.full_monitor.proofs.RightCell.{says_cell, leaves_cell, pages_cell}
 

@@ -1,5 +1,5 @@
 -- What a call of the monitor has done.
-use Rattle.std.specs.Prelude.{◌≡◌, ℕ, ◌<◌, true, false, List, ◌++◌, length, drop, Ok, Err, Result}
+use Rattle.std.specs.Prelude.{◌≡◌, ℕ, ◌<◌, true, List, ◌++◌, length, drop, Ok, Err, Result}
 use Rattle.fields.specs.declared.values.Unwritten.{Unwritten}
 use Rattle.fields.specs.declared.values.Unwritten.TheVariants.{TooMany, TooShort}
 use Rattle.model.specs.Calls.{Call}
@@ -8,21 +8,11 @@ use Rattle.model.specs.State.{Limits, Sized, State}
 use Rattle.model.specs.Monitor as model
 use Rattle.model.specs.Events.{Event, state, AllPaged}
 use Rattle.answers.specs.Table.{write_answer}
-use Rattle.answers.specs.Meaning.{answer_of, refusal_of}
-use Rattle.answers.specs.declared.answer.Refusal.{Refusal}
+use Rattle.answers.specs.Meaning.{answer_of}
 use Rattle.full_pages.specs.Flat.{flat}
 use Rattle.full_pages.specs.Layout.{encode}
-use Rattle.full_pages.specs.Rows.{new_memory}
-use Rattle.full_monitor.specs.Limits.{fitting}
 use Rattle.full_monitor.specs.Program.{says, leaves, leaves_pages}
-use Rattle.full_monitor.specs.declared.values.Reply.{Reply}
-
--- Limits and lengths that fit one another: the memory is that of an opened monitor. Any others are refused by 2, and nothing is changed.
-abbrev pub Opened : ℕ → ℕ → ℕ → ℕ → List ℕ → List ℕ → Result (Unit {0}) Refusal → Type 0
-Opened pages opens inside outside before after (Ok _) =
-    (fitting pages opens (length before) inside outside ≡ true) × (after ≡ new_memory pages opens)
-Opened pages opens inside outside before after (Err r) =
-    (fitting pages opens (length before) inside outside ≡ false) × (refusal_of r ≡ record { number = 2; place = 0 }) × (after ≡ before)
+use Rattle.monitor.specs.declared.values.Reply.{Reply}
 
 -- What is lent to the monitor and that it may write: its memory, the words of closed pages, and the slice for the system's bytes.
 pub record Slices : Type 0 where

@@ -5,16 +5,15 @@ ghost use Rattle.std.specs.Prelude.{◌≡◌, ◌*◌, ◌≤◌, length};
 ghost use Rattle.answers.specs.Meaning.{answer_of};
 ghost use Rattle.calls.specs.Meaning.{call_of};
 ghost use Rattle.calls.specs.Table.{read_call};
-ghost use Rattle.full_monitor.specs.Limits.{good_limits, fitting, Lent};
+ghost use Rattle.full_monitor.specs.Limits.{Lent};
 ghost use Rattle.full_monitor.specs.Program.{Does};
-ghost use Rattle.full_monitor.specs.Called.{Opened, Runs, Refines};
+ghost use Rattle.full_monitor.specs.Called.{Runs, Refines};
 
 mod answering;
 mod cells;
 mod promises;
 mod range;
 mod system;
-mod values;
 
 use answering::refused;
 use answers::{Answer, Reason, Refusal};
@@ -23,39 +22,10 @@ use cells::by_cell;
 use fields::Unwritten;
 pub use promises::{cells_are_kept, program_is_right, tells_no_secrets};
 use system::by_system;
-pub use values::{Limits, Reply};
+pub use monitor::{Limits, Reply, in_range, open};
 
 // The longest answer that the system is told.
 const LONGEST: usize = 17;
-
-// Whether there are from 2 to 4,096 closed pages, and at most 1,048,576 open ones.
-pub fn in_range(limits: Limits) -> bool
-    ensures { result ≡ good_limits limits.closed limits.«open» }
-{
-    limits.closed >= 2 && limits.closed <= 4096 && limits.open <= 1048576
-}
-
-// Whether limits are in range, and the lengths of slices fit them.
-fn fits(limits: Limits, memory: usize, closed: usize, open: usize) -> bool
-    ensures { result ≡ fitting limits.closed limits.«open» memory closed «open» }
-{
-    in_range(limits)
-        && memory as u64 == 256 + 2048 * limits.closed
-        && closed as u64 == 1024 * limits.closed
-        && open as u64 == 1024 * limits.open
-}
-
-// Opens the monitor over memory and pages that are lent to it: the memory is then that of a machine without cells. Limits that are out of
-// range, and slices of another length, are refused by 2, and nothing is written.
-pub fn open(limits: Limits, memory: &mut [u64], closed: &[u32], open: &[u32]) -> Result<(), Refusal>
-    ensures { Opened limits.closed limits.«open» (length closed.now) (length «open».now) memory.old memory.new result }
-{
-    if !fits(limits, memory.len(), closed.len(), open.len()) {
-        return Err(Refusal::by(2));
-    }
-    full_pages::lay_out(memory, limits.closed, limits.open);
-    Ok(())
-}
 
 // A call: out of range it is refused by 2; then it is the system's while no cell runs, or that of the cell that does.
 fn taken(memory: &mut [u64], closed: &mut [u32], open: &[u32], call: Call<'_>) -> Answer<'static>
@@ -108,10 +78,8 @@ fn reply(
         return Err(Unwritten::TooShort { needed: LONGEST });
     }
     let answer = answer(memory, closed, open, bytes);
-    match answers::write(answers::told_to_system(answer), told) {
-        Ok(told) => Ok(Reply { answer, told }),
-        Err(unwritten) => Err(unwritten),
-    }
+    let told = answers::write(answers::told_to_system(answer), told)?;
+    Ok(Reply { answer, told })
 }
 
 // Takes a call, or refuses it. What the system is told is written at the front of `told`. REFINEMENT: for any limits, and any events that

@@ -21,9 +21,10 @@ use Rattle.full_pages.proofs.Flats.{pages_written}
 use Rattle.full_pages.proofs.Seen.{reads_right}
 use Rattle.lookups.proofs.Right.{Known}
 use Rattle.lookups.proofs.Edited.{contents_wide, opens_wide}
-use Rattle.full_monitor.specs.Limits.{good_limits, Lent}
+use Rattle.full_monitor.specs.Limits.{Lent}
+use Rattle.monitor.specs.Stage.{good_limits}
 use Rattle.full_monitor.specs.Called.{Slices, Called, Made, Refines}
-use Rattle.full_monitor.specs.declared.values.Reply.{Reply}
+use Rattle.monitor.specs.declared.values.Reply.{Reply}
 use Rattle.full_monitor.proofs.Right.{known}
 use Rattle.full_session.specs.Flat.{whole_page, page_fits}
 use Rattle.full_session.specs.Holds.{with_call}

@@ -5,7 +5,7 @@ use Rattle.model.specs.Calls.{Call}
 use Rattle.model.specs.State.{Limits}
 use Rattle.model.specs.Events.{Event, called}
 use Rattle.full_monitor.specs.Called.{Slices, Made}
-use Rattle.full_monitor.specs.declared.values.Reply.{Reply}
+use Rattle.monitor.specs.declared.values.Reply.{Reply}
 use Rattle.full_session.specs.declared.state.Session.{Session}
 
 -- A session holds what these events made, with these limits.

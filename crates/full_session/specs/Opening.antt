@@ -3,7 +3,7 @@ use Rattle.std.specs.Prelude.{◌≡◌, ℕ, true, false, [], Ok, Err, Result}
 use Rattle.answers.specs.Meaning.{refusal_of}
 use Rattle.model.specs.State.{Limits}
 use Rattle.model.specs.Promises.{all}
-use Rattle.full_monitor.specs.Limits.{good_limits}
+use Rattle.monitor.specs.Stage.{good_limits}
 use Rattle.full_session.specs.Holds.{Holds}
 use Rattle.full_session.specs.declared.state.Session.{Session}
 use Rattle.full_session.specs.declared.state.Unopened.{Unopened}

@@ -1,1 +1,2 @@
 mod Staged
+pub mod Told

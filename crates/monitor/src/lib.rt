@@ -42,10 +42,7 @@ pub fn open(limits: Limits, memory: &mut [u64], closed: &[u32], open: &[u32]) ->
     ensures { Opened limits.closed limits.«open» (length closed.now) (length «open».now) memory.old memory.new result }
 {
     if !fits(limits, memory.len(), closed.len(), open.len()) {
-        return Err(Refusal {
-            number: 2,
-            place: 0,
-        });
+        return Err(Refusal::by(2));
     }
     pages::lay_out(memory, limits.closed, limits.open);
     Ok(())
@@ -56,7 +53,7 @@ fn refused(number: u64) -> Answer<'static>
     ensures { answer_of result ≡ refusing number 0 }
 {
     Answer::Refused {
-        refusal: Refusal { number, place: 0 },
+        refusal: Refusal::by(number),
     }
 }
 
@@ -102,15 +99,11 @@ pub fn call(
         return Err(Unwritten::TooShort { needed: LONGEST });
     }
     let answer = answer(pages::pages(memory), bytes);
-    match answers::write(answers::told_to_system(answer), told) {
-        Ok(told) => Ok(Reply { answer, told }),
-        Err(unwritten) => Err(unwritten),
-    }
+    let told = answers::write(answers::told_to_system(answer), told)?;
+    Ok(Reply { answer, told })
 }
 
 // This stage is that of the definitions which has call 0 and no other.
-pub fn stage_stands() -> u8
+pub fn stage_stands()
     ensures { StageStands }
-{
-    0
-}
+{}

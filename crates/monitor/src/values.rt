@@ -2,7 +2,7 @@
 use answers::Answer;
 
 // How many closed pages and open pages there are.
-#[derive(Clone, Copy)]
+#[derive(Clone, Copy, Debug, PartialEq, Eq)]
 pub struct Limits {
     pub closed: u64,
     pub open: u64,

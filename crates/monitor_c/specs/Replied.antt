@@ -4,7 +4,7 @@ use Rattle.model.specs.Calls.{Call}
 use Rattle.model.specs.Answers.{to_system}
 use Rattle.answers.specs.Table.{write_answer}
 use Rattle.full_pages.specs.Rows.{new_memory}
-use Rattle.full_monitor.specs.Limits.{fitting}
+use Rattle.monitor.specs.Stage.{fitting}
 use Rattle.full_monitor.specs.Program.{says, leaves, leaves_pages}
 use Rattle.full_monitor.specs.Called.{Slices}
 
