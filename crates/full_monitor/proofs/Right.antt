@@ -12,7 +12,8 @@ use Rattle.full_pages.specs.Flat.{flat}
 use Rattle.full_pages.specs.Layout.{encode}
 use Rattle.lookups.proofs.Right.{Known}
 use Rattle.full_monitor.specs.Program.{says, leaves, leaves_pages}
-use Rattle.full_monitor.specs.Called.{Slices, Called, Runs, Refines}
+use Rattle.full_monitor.specs.Called.{Runs, Refines}
+use Rattle.monitor.specs.Called.{Slices, Called}
 use Rattle.monitor.specs.declared.values.Reply.{Reply}
 use Rattle.full_monitor.proofs.RightSystem.{says_system, leaves_system, pages_system}
 use Rattle.full_monitor.proofs.RightCell.{says_cell, leaves_cell, pages_cell}

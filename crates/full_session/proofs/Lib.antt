@@ -1,2 +1,1 @@
-mod Refilled
-mod Written
+mod Lent

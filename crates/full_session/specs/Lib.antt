@@ -1,3 +1,1 @@
-pub mod Flat
-pub mod Holds
-pub mod Opening
+pub mod Laws

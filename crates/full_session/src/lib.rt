@@ -1,7 +1,8 @@
-// A session: the monitor with memory and pages of its own.
+// A session with the monitor that has all its calls.
 #![tactic(auto)]
 
-mod pages;
-mod state;
+mod whole;
 
-pub use state::{Session, Unopened, open};
+pub use whole::Whole;
+
+pub type Session = session::Session<Whole>;

@@ -1,13 +1,13 @@
 // The monitor: a call's bytes in, an answer out, over memory and pages that are lent to it.
 #![tactic(auto)]
 
-ghost use Rattle.std.specs.Prelude.{◌≡◌, ◌*◌, ◌≤◌, true, false, length, MatchResult, slice_index};
+ghost use Rattle.std.specs.Prelude.{◌≡◌, ◌*◌, ◌≤◌, true, length};
 ghost use Rattle.answers.specs.Meaning.{answer_of, refusal_of};
 ghost use Rattle.calls.specs.Meaning.{call_of};
 ghost use Rattle.calls.specs.Table.{read_call};
 ghost use Rattle.monitor.specs.Stage.{answer as stage_answer, good_limits, fitting, refusing};
 ghost use Rattle.monitor.specs.Promises.{StageStands};
-ghost use Rattle.monitor.specs.Called.{Called, Opened};
+ghost use Rattle.monitor.specs.Called.{Opened, Staged};
 
 mod values;
 
@@ -90,8 +90,9 @@ pub fn call(
     told: &mut [u8],
 ) -> Result<Reply, Unwritten>
     requires { 256 ≤ length memory.old }
-    ensures reply { Called (stage_answer (slice_index memory.old 0) (read_call bytes.now)) told.old
-        told.new result }
+    ensures reply { Staged «open».now (read_call bytes.now)
+        (record { memory = memory.old; closed = closed.old; told = told.old })
+        (record { memory = memory.new; closed = closed.new; told = told.new }) result }
     ensures memory { memory.new ≡ memory.old }
     ensures closed { closed.new ≡ closed.old }
 {

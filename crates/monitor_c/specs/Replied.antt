@@ -6,7 +6,7 @@ use Rattle.answers.specs.Table.{write_answer}
 use Rattle.full_pages.specs.Rows.{new_memory}
 use Rattle.monitor.specs.Stage.{fitting}
 use Rattle.full_monitor.specs.Program.{says, leaves, leaves_pages}
-use Rattle.full_monitor.specs.Called.{Slices}
+use Rattle.monitor.specs.Called.{Slices}
 
 -- whether the memory has its header, and the slices are as long as that says, with room for what the system is told
 abbrev pub fits : List ℕ → List ℕ → List ℕ → List ℕ → Bool

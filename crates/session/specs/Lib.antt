@@ -1,2 +1,4 @@
 pub mod Flat
+pub mod Holding
 pub mod Opening
+pub mod Staging

@@ -1,7 +1,13 @@
-// A session: the monitor with memory and pages of its own.
+// A session: a monitor with memory and pages of its own.
 #![tactic(auto)]
 
+mod errors;
 mod flat;
+mod stage;
 mod state;
+mod under;
 
-pub use state::{Session, Unopened, open};
+pub use errors::{NotWritten, Unopened};
+pub use stage::Stage;
+pub use state::{Session, open};
+pub use under::Monitor;

@@ -1,14 +1,17 @@
-use Rattle.std.proofs.Common.{cond, refl, ap, ◌∙◌}
-use Rattle.session.specs.Flat.{page_fits, page_put, whole_page}
-use Rattle.session.proofs.Refilled.{refilled_with}
+use Rattle.std.proofs.Common.{is_ok, arith}
+use mathlib.Core.Logic.{∥∥₁_map}
+use Rattle.session.proofs.Kept.{open_written}
 use Rattle.session.proofs.state.Session.write_open.Goals as goal
 
-pub returns : goal.returns
-returns c = record {
-  done = c.write.ensures.done ∙ ap (λ xs. page_fits xs c.args.page c.args.words.now) c.as_mut_slice.ensures.value;
-  after = refilled_with c.args.self.now.open c.write.new.all _ c.write.auto.all c.as_mut_slice.ensures.value
-      ∙ c.write.ensures.after
-      ∙ ap (λ xs. cond c.write.result (page_put xs c.args.page (whole_page c.args.words.now)) xs)
-      c.as_mut_slice.ensures.value;
-  others = (refl, refl);
+pub returns-clause-events : goal.returns-clause-events
+returns-clause-events g c l es h =
+    open_written g.M.Monitor.holds c.args.self.now.open c.args.page c.args.words.now (λ i. omega (arith, c.type_inv.words i))
+    (is_ok c.write.result) _ c.write.new.all c.as_mut_slice.ensures.value c.write.auto.all c.write.ensures.done c.write.ensures.after
+    g.met.M.Monitor.open_writes_hold l es _ _ h
+
+pub invariant_of-self : goal.invariant_of-self
+invariant_of-self g c = record {
+  made = ∥∥₁_map c.args.self.now.made (λ y. (y.0, _, open_written g.M.Monitor.holds c.args.self.now.open c.args.page c.args.words.now (λ i. omega (arith, c.type_inv.words i))
+      (is_ok c.write.result) _ c.write.new.all c.as_mut_slice.ensures.value c.write.auto.all c.write.ensures.done c.write.ensures.after
+      g.met.M.Monitor.open_writes_hold y.0 y.1 _ _ y.2));
 }

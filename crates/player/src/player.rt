@@ -1,0 +1,143 @@
+// A file's lines, one after the other.
+use crate::errors::Error;
+use crate::lines::Lines;
+use crate::options::Prints;
+use crate::printer::Printer;
+use monitor::Limits;
+use script::Line;
+use session::{Monitor, Session, Unopened};
+use std::alloc::Global;
+use std::io;
+use std::io::{Read, Write};
+
+#[derive(Drop)]
+struct Player<M: Monitor, W: Write + Drop> {
+    session: Session<M>,
+    printer: Printer<W>,
+    prints: Prints,
+}
+
+// Whether a line is answered as a call is.
+fn answers(what: Line) -> bool {
+    match what {
+        Line::Call { .. } | Line::Limits { .. } | Line::Unreadable => true,
+        Line::Skip | Line::Write { .. } | Line::Print { .. } => false,
+    }
+}
+
+impl<M: Monitor, W: Write + Drop> Player<M, W> {
+    // One call, by its bytes. Seventeen bytes are enough for what the system is told of any.
+    fn call(&mut self, bytes: &[u8]) -> io::Result<()> {
+        let mut told = [0u8; 17];
+        let Ok(reply) = self.session.call(bytes, &mut told) else {
+            return Ok(());
+        };
+        if !self.prints.system {
+            return self.printer.answer(reply.answer);
+        }
+        let count = reply.told.min(told.len());
+        match answers::read(&told[..count]) {
+            Ok(answer) => self.printer.answer(answer),
+            Err(_) => Ok(()),
+        }
+    }
+
+    fn write(&mut self, open: bool, page: u64, words: &[u32], line: u64) -> io::Result<()> {
+        let written = if open {
+            self.session.write_open(page, words)
+        } else {
+            self.session.write_closed(page, words)
+        };
+        match written {
+            Ok(()) => Ok(()),
+            Err(_) => self.printer.unreadable(line),
+        }
+    }
+
+    fn print(&mut self, open: bool, page: u64, line: u64) -> io::Result<()> {
+        let found = if open {
+            self.session.open_page(page)
+        } else {
+            self.session.closed_page(page)
+        };
+        match found {
+            Some(words) => self.printer.page(open, page, words),
+            None => self.printer.unreadable(line),
+        }
+    }
+
+    // One line, after the limits.
+    fn take(&mut self, line: u64, text: &[u8]) -> io::Result<()> {
+        let mut bytes = [0u8; 2048];
+        let mut words = [0u32; 1024];
+        let what = script::read(text, &mut bytes, &mut words);
+        if self.prints.echo && answers(what) {
+            self.printer.echo(text)?;
+        }
+        match what {
+            Line::Skip => Ok(()),
+            Line::Call { length } => self.call(&bytes[..length.min(2048)]),
+            Line::Write { open, page, count } => {
+                self.write(open, page, &words[..count.min(1024)], line)
+            }
+            Line::Print { open, page } => self.print(open, page, line),
+            Line::Limits { .. } | Line::Unreadable => self.printer.unreadable(line),
+        }
+    }
+}
+
+// The session that a line begins, if it is not skipped.
+fn first<M: Monitor>(heap: Global, line: u64, text: &[u8]) -> Result<Option<Session<M>>, Error> {
+    let mut bytes = [0u8; 2048];
+    let mut words = [0u32; 1024];
+    match script::read(text, &mut bytes, &mut words) {
+        Line::Skip => Ok(None),
+        Line::Limits { closed, open } => match session::open(heap, Limits { closed, open }) {
+            Ok(session) => Ok(Some(session)),
+            Err(Unopened::NoMemory) => Err(Error::NoMemory { line }),
+            Err(Unopened::Refused { .. }) => Err(Error::Limits { line, closed, open }),
+        },
+        _ => Err(Error::NoLimits { line }),
+    }
+}
+
+// The session that the first line begins that is not skipped.
+fn begin<M: Monitor, R: Read + Drop>(
+    heap: Global,
+    lines: &mut Lines<R>,
+) -> Result<Session<M>, Error> {
+    for _ in 0..u64::MAX {
+        let Some((line, text)) = lines.read()? else {
+            break;
+        };
+        if let Some(session) = first(heap, line, text)? {
+            return Ok(session);
+        }
+    }
+    Err(Error::NoLimits {
+        line: lines.count(),
+    })
+}
+
+// Plays the lines of a file.
+pub fn play<M: Monitor, R: Read + Drop, W: Write + Drop>(
+    heap: Global,
+    input: R,
+    output: W,
+    prints: Prints,
+) -> Result<(), Error> {
+    let mut lines = Lines::new(heap, input)?;
+    let mut player = Player {
+        session: begin::<M, R>(heap, &mut lines)?,
+        printer: Printer::new(heap, output)?,
+        prints,
+    };
+    for _ in 0..u64::MAX {
+        let Some((line, text)) = lines.read()? else {
+            break;
+        };
+        player.take(line, text)?;
+    }
+    player.printer.flush()?;
+    Ok(())
+}
