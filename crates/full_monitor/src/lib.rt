@@ -20,9 +20,9 @@ use answers::{Answer, Reason, Refusal};
 use calls::Call;
 use cells::by_cell;
 use fields::Unwritten;
+pub use monitor::{Limits, Reply, in_range, open};
 pub use promises::{cells_are_kept, program_is_right, tells_no_secrets};
 use system::by_system;
-pub use monitor::{Limits, Reply, in_range, open};
 
 // The longest answer that the system is told.
 const LONGEST: usize = 17;

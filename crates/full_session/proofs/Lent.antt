@@ -35,4 +35,3 @@ lent m cs os t = record {
   closed = ∥∥₁_elim t (hlevel props) (λ x. (lent_by x.0 x.1 m cs os x.2).closed);
   opens = ∥∥₁_elim t (hlevel props) (λ x. (lent_by x.0 x.1 m cs os x.2).opens);
 }
-

@@ -1,4 +1,4 @@
-// The bytes of calls and answers, and what the monitor makes of them, against values that are written out.
+// Sessions with either monitor, and one cell from its making to its end in the one that has all the calls.
 #![tactic(auto)]
 
 #[cfg(test)]
@@ -6,265 +6,17 @@ mod tests {
     use answers::{Answer, Refusal};
     use calls::Call;
     use fields::{Numbers, Place, Registers};
-    use full_monitor::Limits;
+    use full_session::Whole;
+    use monitor::Limits;
+    use session::{Monitor, NotWritten, Session, Stage};
+    use std::alloc::Global;
     use std::process::Abort;
     use std::test::Fail;
 
-    // 8, 7, .. 1, from the high byte down
-    const BIG: u64 = 578437695752307201;
-
-    fn at(table: u64, slot: u64, write: bool, run: bool) -> Place {
-        Place {
-            table,
-            slot,
-            write,
-            run,
-        }
-    }
-
-    // Whether the front of what was written is what was expected, and no more was written.
-    fn is(out: &[u8], count: usize, expected: &[u8]) -> bool {
-        if count != expected.len() || count > out.len() {
-            return false;
-        }
-        out[0..count].iter().eq(expected.iter())
-    }
-
-    // A call has these bytes, and these bytes, read, are written again as they are.
-    fn call(rt: &impl Abort, call: Call<'_>, expected: &[u8]) -> Result<(), Fail> {
-        let mut out = [0u8; 64];
-        let Ok(count) = calls::write(call, &mut out) else {
-            return Err(Fail::new("not written"));
-        };
-        assert!(rt; is(&out, count, expected));
-        let Ok(again) = calls::read(expected) else {
-            return Err(Fail::new("not read"));
-        };
-        let mut out = [0u8; 64];
-        let Ok(count) = calls::write(again, &mut out) else {
-            return Err(Fail::new("not written again"));
-        };
-        assert!(rt; is(&out, count, expected));
-        Ok(())
-    }
-
-    fn answer(rt: &impl Abort, answer: Answer<'_>, expected: &[u8]) -> Result<(), Fail> {
-        let mut out = [0u8; 64];
-        let Ok(count) = answers::write(answer, &mut out) else {
-            return Err(Fail::new("not written"));
-        };
-        assert!(rt; is(&out, count, expected));
-        let Ok(again) = answers::read(expected) else {
-            return Err(Fail::new("not read"));
-        };
-        let mut out = [0u8; 64];
-        let Ok(count) = answers::write(again, &mut out) else {
-            return Err(Fail::new("not written again"));
-        };
-        assert!(rt; is(&out, count, expected));
-        Ok(())
-    }
-
-    // Bytes that cease to be a call at a place.
-    fn garbled(rt: &impl Abort, bytes: &[u8], place: usize) -> Result<(), Fail> {
-        match calls::read(bytes) {
-            Ok(_) => Err(Fail::new("a call")),
-            Err(at) => {
-                assert!(rt; at == place);
-                Ok(())
-            },
-        }
-    }
-
-    fn a_call(row: u8) -> Call<'static> {
-        match row {
-            0 => Call::HowMany,
-            1 => Call::NewCell { first: 3, top: BIG },
-            2 => Call::NewThread {
-                page: 2,
-                cell: 0,
-                start: 4096,
-            },
-            3 => Call::NewTable {
-                page: 4,
-                cell: 0,
-                index: 255,
-            },
-            4 => Call::Hold {
-                page: 3,
-                cell: 0,
-                place: at(0, 1, true, false),
-                source: Some(2),
-            },
-            5 => Call::Hold {
-                page: 3,
-                cell: 0,
-                place: at(1, 0, false, true),
-                source: None,
-            },
-            6 => Call::Give { page: 5, cell: 0 },
-            7 => Call::Show {
-                open: 1,
-                cell: 0,
-                place: at(0, 2, true, true),
-            },
-            8 => Call::Remove { page: 256 },
-            9 => Call::Seal { cell: 1 },
-            10 => Call::Stop { cell: 1 },
-            11 => Call::Enter {
-                thread: 2,
-                x: 7,
-                y: 8,
-                z: 9,
-            },
-            12 => Call::Resume { thread: 2 },
-            13 => Call::Leave { number: 42 },
-            14 => Call::Interrupt {
-                registers: Numbers::None,
-            },
-            15 => Call::Interrupt {
-                registers: Numbers::One(BIG),
-            },
-            16 => Call::Fault { kind: 3 },
-            17 => Call::Grow {
-                page: 5,
-                place: at(0, 1, false, false),
-            },
-            18 => Call::Shrink {
-                page: 5,
-                place: at(0, 3, true, false),
-            },
-            19 => Call::Extend { page: 5, index: 1 },
-            20 => Call::Who,
-            _ => Call::Draw { number: 6 },
-        }
-    }
-
-    fn call_bytes(row: u8) -> &'static [u8] {
-        match row {
-            0 => &[0],
-            1 => &[1, 3, 0, 0, 0, 0, 0, 0, 0, 1, 2, 3, 4, 5, 6, 7, 8],
-            2 => &[
-                2, 2, 0, 0, 0, 0, 0, 0, 0, 0, 0, 0, 0, 0, 0, 0, 0, 0, 16, 0, 0, 0, 0, 0, 0,
-            ],
-            3 => &[
-                3, 4, 0, 0, 0, 0, 0, 0, 0, 0, 0, 0, 0, 0, 0, 0, 0, 255, 0, 0, 0, 0, 0, 0, 0,
-            ],
-            4 => &[
-                4, 3, 0, 0, 0, 0, 0, 0, 0, 0, 0, 0, 0, 0, 0, 0, 0, 0, 0, 0, 0, 0, 0, 0, 0, 1, 0, 0,
-                0, 0, 0, 0, 0, 1, 1, 2, 0, 0, 0, 0, 0, 0, 0,
-            ],
-            5 => &[
-                4, 3, 0, 0, 0, 0, 0, 0, 0, 0, 0, 0, 0, 0, 0, 0, 0, 1, 0, 0, 0, 0, 0, 0, 0, 0, 0, 0,
-                0, 0, 0, 0, 0, 2, 0,
-            ],
-            6 => &[5, 5, 0, 0, 0, 0, 0, 0, 0, 0, 0, 0, 0, 0, 0, 0, 0],
-            7 => &[
-                6, 1, 0, 0, 0, 0, 0, 0, 0, 0, 0, 0, 0, 0, 0, 0, 0, 0, 0, 0, 0, 0, 0, 0, 0, 2, 0, 0,
-                0, 0, 0, 0, 0, 3,
-            ],
-            8 => &[7, 0, 1, 0, 0, 0, 0, 0, 0],
-            9 => &[8, 1, 0, 0, 0, 0, 0, 0, 0],
-            10 => &[9, 1, 0, 0, 0, 0, 0, 0, 0],
-            11 => &[
-                10, 2, 0, 0, 0, 0, 0, 0, 0, 7, 0, 0, 0, 0, 0, 0, 0, 8, 0, 0, 0, 0, 0, 0, 0, 9, 0,
-                0, 0, 0, 0, 0, 0,
-            ],
-            12 => &[11, 2, 0, 0, 0, 0, 0, 0, 0],
-            13 => &[20, 42, 0, 0, 0, 0, 0, 0, 0],
-            14 => &[21, 0],
-            15 => &[21, 1, 1, 2, 3, 4, 5, 6, 7, 8],
-            16 => &[22, 3, 0, 0, 0, 0, 0, 0, 0],
-            17 => &[
-                23, 5, 0, 0, 0, 0, 0, 0, 0, 0, 0, 0, 0, 0, 0, 0, 0, 1, 0, 0, 0, 0, 0, 0, 0, 0,
-            ],
-            18 => &[
-                24, 5, 0, 0, 0, 0, 0, 0, 0, 0, 0, 0, 0, 0, 0, 0, 0, 3, 0, 0, 0, 0, 0, 0, 0, 1,
-            ],
-            19 => &[25, 5, 0, 0, 0, 0, 0, 0, 0, 1, 0, 0, 0, 0, 0, 0, 0],
-            20 => &[26],
-            _ => &[27, 6, 0, 0, 0, 0, 0, 0, 0],
-        }
-    }
-
-    fn an_answer(row: u8) -> Answer<'static> {
-        match row {
-            0 => Answer::Refused {
-                refusal: Refusal {
-                    number: 1,
-                    place: 33,
-                },
-            },
-            1 => Answer::Done,
-            2 => Answer::Number { number: 4096 },
-            3 => Answer::Enters {
-                top: 1,
-                registers: Numbers::None,
-            },
-            4 => Answer::Told {
-                error: 0,
-                numbers: Numbers::One(6),
-            },
-            5 => Answer::Told {
-                error: 8,
-                numbers: Numbers::None,
-            },
-            _ => Answer::Left { how: 0, number: 42 },
-        }
-    }
-
-    fn answer_bytes(row: u8) -> &'static [u8] {
-        match row {
-            0 => &[0, 1, 0, 0, 0, 0, 0, 0, 0, 33, 0, 0, 0, 0, 0, 0, 0],
-            1 => &[1],
-            2 => &[2, 0, 16, 0, 0, 0, 0, 0, 0],
-            3 => &[3, 1, 0, 0, 0, 0, 0, 0, 0, 0],
-            4 => &[4, 0, 0, 0, 0, 0, 0, 0, 0, 1, 6, 0, 0, 0, 0, 0, 0, 0],
-            5 => &[4, 8, 0, 0, 0, 0, 0, 0, 0, 0],
-            _ => &[5, 0, 0, 0, 0, 0, 0, 0, 0, 42, 0, 0, 0, 0, 0, 0, 0],
-        }
-    }
-
-    #[test]
-    fn of_calls(rt: HostRuntime) -> Result<(), Fail> {
-        for row in 0..22u8 {
-            call(&rt, a_call(row), call_bytes(row))?;
-        }
-        Ok(())
-    }
-
-    #[test]
-    fn of_answers(rt: HostRuntime) -> Result<(), Fail> {
-        for row in 0..7u8 {
-            answer(&rt, an_answer(row), answer_bytes(row))?;
-        }
-        Ok(())
-    }
-
-    fn interrupted(words: [u32; 17]) -> Call<'static> {
-        Call::Interrupt {
-            registers: Numbers::Registers(Registers { words }),
-        }
-    }
-
-    // Seventeen registers, as eight bytes each.
-    #[test]
-    fn of_registers(rt: HostRuntime) -> Result<(), Fail> {
-        let mut words = [0u32; 17];
-        words[0] = 7;
-        words[16] = 66051;
-        let mut out = [0u8; 200];
-        let Ok(count) = calls::write(interrupted(words), &mut out) else {
-            return Err(Fail::new("not written"));
-        };
-        assert!(rt; count == 138);
-        assert!(rt; out[0] == 21 && out[1] == 17 && out[2] == 7 && out[3] == 0);
-        assert!(rt; out[130] == 3 && out[131] == 2 && out[132] == 1 && out[133] == 0);
-        Ok(())
-    }
-
     // Registers 0 to 16.
-    const COUNTED: [u32; 17] = [0, 1, 2, 3, 4, 5, 6, 7, 8, 9, 10, 11, 12, 13, 14, 15, 16];
+    const COUNTED: Numbers<'static> = Numbers::Registers(Registers {
+        words: [0, 1, 2, 3, 4, 5, 6, 7, 8, 9, 10, 11, 12, 13, 14, 15, 16],
+    });
 
     // The name of a cell in which nothing but a thread from 4,096 was made.
     const NAME: [u32; 8] = [
@@ -272,169 +24,364 @@ mod tests {
         2333515072,
     ];
 
-    const ROWS: u8 = 43;
-
-    fn hold(page: u64, place: Place, source: Option<u64>) -> Call<'static> {
-        Call::Hold {
-            page,
-            cell: 0,
-            place,
-            source,
-        }
-    }
-
-    fn enter(x: u64, y: u64, z: u64) -> Call<'static> {
-        Call::Enter { thread: 2, x, y, z }
-    }
-
-    fn refused(number: u64) -> Answer<'static> {
-        Answer::Refused {
-            refusal: Refusal { number, place: 0 },
-        }
-    }
-
-    fn entered(words: [u32; 17]) -> Answer<'static> {
-        Answer::Enters {
-            top: 1,
-            registers: Numbers::Registers(Registers { words }),
-        }
-    }
-
-    fn told(error: u64) -> Answer<'static> {
-        Answer::Told {
-            error,
-            numbers: Numbers::None,
-        }
-    }
-
-    // One cell, from its making to its end; and then another, which asks for its name.
-    fn asked(row: u8) -> Call<'static> {
-        match row {
-            0 => Call::NewCell { first: 0, top: 1 },
-            1 => Call::NewCell { first: 0, top: 2 },
-            2 => Call::NewThread {
+    // One cell, from its making to its end; and then another, which asks for its name: each call, and what the machine is answered.
+    const ONE_CELL: [(Call<'static>, Answer<'static>); 43] = [
+        (Call::NewCell { first: 0, top: 1 }, Answer::Done),
+        (
+            Call::NewCell { first: 0, top: 2 },
+            Answer::Refused {
+                refusal: Refusal {
+                    number: 4,
+                    place: 0,
+                },
+            },
+        ),
+        (
+            Call::NewThread {
                 page: 2,
                 cell: 0,
                 start: 4096,
             },
-            3 => hold(3, at(0, 1, false, false), None),
-            4 => Call::NewTable {
+            Answer::Done,
+        ),
+        (
+            Call::Hold {
+                page: 3,
+                cell: 0,
+                place: Place {
+                    table: 0,
+                    slot: 1,
+                    write: false,
+                    run: false,
+                },
+                source: None,
+            },
+            Answer::Refused {
+                refusal: Refusal {
+                    number: 8,
+                    place: 0,
+                },
+            },
+        ),
+        (
+            Call::NewTable {
                 page: 4,
                 cell: 0,
                 index: 0,
             },
-            5 => hold(3, at(0, 1, true, false), Some(2)),
-            6 => hold(5, at(0, 1, false, false), None),
-            7 => Call::Show {
+            Answer::Done,
+        ),
+        (
+            Call::Hold {
+                page: 3,
+                cell: 0,
+                place: Place {
+                    table: 0,
+                    slot: 1,
+                    write: true,
+                    run: false,
+                },
+                source: Some(2),
+            },
+            Answer::Done,
+        ),
+        (
+            Call::Hold {
+                page: 5,
+                cell: 0,
+                place: Place {
+                    table: 0,
+                    slot: 1,
+                    write: false,
+                    run: false,
+                },
+                source: None,
+            },
+            Answer::Refused {
+                refusal: Refusal {
+                    number: 8,
+                    place: 0,
+                },
+            },
+        ),
+        (
+            Call::Show {
                 open: 1,
                 cell: 0,
-                place: at(0, 2, true, false),
+                place: Place {
+                    table: 0,
+                    slot: 2,
+                    write: true,
+                    run: false,
+                },
             },
-            8 => enter(0, 0, 0),
-            9 => Call::Seal { cell: 0 },
-            10 => Call::Seal { cell: 0 },
-            11 => hold(5, at(0, 3, false, false), None),
-            12 => Call::Give { page: 5, cell: 0 },
-            13 => Call::Remove { page: 3 },
-            14 => enter(7, 8, 9),
-            15 => Call::HowMany,
-            16 => Call::Grow {
+            Answer::Done,
+        ),
+        (
+            Call::Enter {
+                thread: 2,
+                x: 0,
+                y: 0,
+                z: 0,
+            },
+            Answer::Refused {
+                refusal: Refusal {
+                    number: 7,
+                    place: 0,
+                },
+            },
+        ),
+        (Call::Seal { cell: 0 }, Answer::Done),
+        (
+            Call::Seal { cell: 0 },
+            Answer::Refused {
+                refusal: Refusal {
+                    number: 6,
+                    place: 0,
+                },
+            },
+        ),
+        (
+            Call::Hold {
                 page: 5,
-                place: at(0, 1, false, false),
+                cell: 0,
+                place: Place {
+                    table: 0,
+                    slot: 3,
+                    write: false,
+                    run: false,
+                },
+                source: None,
             },
-            17 => Call::Grow {
+            Answer::Refused {
+                refusal: Refusal {
+                    number: 6,
+                    place: 0,
+                },
+            },
+        ),
+        (Call::Give { page: 5, cell: 0 }, Answer::Done),
+        (
+            Call::Remove { page: 3 },
+            Answer::Refused {
+                refusal: Refusal {
+                    number: 10,
+                    place: 0,
+                },
+            },
+        ),
+        (
+            Call::Enter {
+                thread: 2,
+                x: 7,
+                y: 8,
+                z: 9,
+            },
+            Answer::Enters {
+                top: 1,
+                registers: Numbers::Registers(Registers {
+                    words: [7, 8, 9, 0, 0, 0, 0, 0, 0, 0, 0, 0, 0, 0, 0, 4096, 0],
+                }),
+            },
+        ),
+        (
+            Call::HowMany,
+            Answer::Refused {
+                refusal: Refusal {
+                    number: 14,
+                    place: 0,
+                },
+            },
+        ),
+        (
+            Call::Grow {
                 page: 5,
-                place: at(0, 3, false, false),
+                place: Place {
+                    table: 0,
+                    slot: 1,
+                    write: false,
+                    run: false,
+                },
             },
-            18 => interrupted(COUNTED),
-            19 => enter(0, 0, 0),
-            20 => Call::Resume { thread: 2 },
-            21 => Call::Shrink {
+            Answer::Told {
+                error: 8,
+                numbers: Numbers::None,
+            },
+        ),
+        (
+            Call::Grow {
                 page: 5,
-                place: at(0, 1, false, false),
+                place: Place {
+                    table: 0,
+                    slot: 3,
+                    write: false,
+                    run: false,
+                },
             },
-            22 => Call::Shrink {
+            Answer::Told {
+                error: 0,
+                numbers: Numbers::None,
+            },
+        ),
+        (
+            Call::Interrupt { registers: COUNTED },
+            Answer::Left { how: 1, number: 0 },
+        ),
+        (
+            Call::Enter {
+                thread: 2,
+                x: 0,
+                y: 0,
+                z: 0,
+            },
+            Answer::Refused {
+                refusal: Refusal {
+                    number: 11,
+                    place: 0,
+                },
+            },
+        ),
+        (
+            Call::Resume { thread: 2 },
+            Answer::Enters {
+                top: 1,
+                registers: COUNTED,
+            },
+        ),
+        (
+            Call::Shrink {
                 page: 5,
-                place: at(0, 3, false, false),
+                place: Place {
+                    table: 0,
+                    slot: 1,
+                    write: false,
+                    run: false,
+                },
             },
-            23 => Call::Extend { page: 5, index: 1 },
-            24 => Call::Leave { number: 42 },
-            25 => Call::Leave { number: 42 },
-            26 => Call::Remove { page: 5 },
-            27 => Call::Stop { cell: 0 },
-            28 => enter(0, 0, 0),
-            29 => Call::Remove { page: 0 },
-            30 => Call::Remove { page: 1 },
-            31 => Call::Remove { page: 2 },
-            32 => Call::Remove { page: 3 },
-            33 => Call::Remove { page: 4 },
-            34 => Call::Remove { page: 5 },
-            35 => Call::Remove { page: 0 },
-            36 => Call::NewCell { first: 0, top: 1 },
-            37 => Call::NewThread {
+            Answer::Told {
+                error: 8,
+                numbers: Numbers::None,
+            },
+        ),
+        (
+            Call::Shrink {
+                page: 5,
+                place: Place {
+                    table: 0,
+                    slot: 3,
+                    write: false,
+                    run: false,
+                },
+            },
+            Answer::Told {
+                error: 0,
+                numbers: Numbers::None,
+            },
+        ),
+        (
+            Call::Extend { page: 5, index: 1 },
+            Answer::Told {
+                error: 0,
+                numbers: Numbers::None,
+            },
+        ),
+        (
+            Call::Leave { number: 42 },
+            Answer::Left { how: 0, number: 42 },
+        ),
+        (
+            Call::Leave { number: 42 },
+            Answer::Refused {
+                refusal: Refusal {
+                    number: 14,
+                    place: 0,
+                },
+            },
+        ),
+        (
+            Call::Remove { page: 5 },
+            Answer::Refused {
+                refusal: Refusal {
+                    number: 10,
+                    place: 0,
+                },
+            },
+        ),
+        (Call::Stop { cell: 0 }, Answer::Done),
+        (
+            Call::Enter {
+                thread: 2,
+                x: 0,
+                y: 0,
+                z: 0,
+            },
+            Answer::Refused {
+                refusal: Refusal {
+                    number: 7,
+                    place: 0,
+                },
+            },
+        ),
+        (
+            Call::Remove { page: 0 },
+            Answer::Refused {
+                refusal: Refusal {
+                    number: 4,
+                    place: 0,
+                },
+            },
+        ),
+        (Call::Remove { page: 1 }, Answer::Done),
+        (Call::Remove { page: 2 }, Answer::Done),
+        (Call::Remove { page: 3 }, Answer::Done),
+        (Call::Remove { page: 4 }, Answer::Done),
+        (Call::Remove { page: 5 }, Answer::Done),
+        (Call::Remove { page: 0 }, Answer::Done),
+        (Call::NewCell { first: 0, top: 1 }, Answer::Done),
+        (
+            Call::NewThread {
                 page: 2,
                 cell: 0,
                 start: 4096,
             },
-            38 => Call::Seal { cell: 0 },
-            39 => enter(0, 0, 0),
-            40 => Call::Who,
-            41 => Call::Draw { number: 6 },
-            _ => Call::Fault { kind: 3 },
-        }
-    }
-
-    fn answered(row: u8) -> Answer<'static> {
-        match row {
-            0 => Answer::Done,
-            1 => refused(4),
-            2 => Answer::Done,
-            3 => refused(8),
-            4 => Answer::Done,
-            5 => Answer::Done,
-            6 => refused(8),
-            7 => Answer::Done,
-            8 => refused(7),
-            9 => Answer::Done,
-            10 => refused(6),
-            11 => refused(6),
-            12 => Answer::Done,
-            13 => refused(10),
-            14 => entered([7, 8, 9, 0, 0, 0, 0, 0, 0, 0, 0, 0, 0, 0, 0, 4096, 0]),
-            15 => refused(14),
-            16 => told(8),
-            17 => told(0),
-            18 => Answer::Left { how: 1, number: 0 },
-            19 => refused(11),
-            20 => entered(COUNTED),
-            21 => told(8),
-            22 => told(0),
-            23 => told(0),
-            24 => Answer::Left { how: 0, number: 42 },
-            25 => refused(14),
-            26 => refused(10),
-            27 => Answer::Done,
-            28 => refused(7),
-            29 => refused(4),
-            30 => Answer::Done,
-            31 => Answer::Done,
-            32 => Answer::Done,
-            33 => Answer::Done,
-            34 => Answer::Done,
-            35 => Answer::Done,
-            36 => Answer::Done,
-            37 => Answer::Done,
-            38 => Answer::Done,
-            39 => entered([0, 0, 0, 0, 0, 0, 0, 0, 0, 0, 0, 0, 0, 0, 0, 4096, 0]),
-            40 => Answer::Told {
+            Answer::Done,
+        ),
+        (Call::Seal { cell: 0 }, Answer::Done),
+        (
+            Call::Enter {
+                thread: 2,
+                x: 0,
+                y: 0,
+                z: 0,
+            },
+            Answer::Enters {
+                top: 1,
+                registers: Numbers::Registers(Registers {
+                    words: [0, 0, 0, 0, 0, 0, 0, 0, 0, 0, 0, 0, 0, 0, 0, 4096, 0],
+                }),
+            },
+        ),
+        (
+            Call::Who,
+            Answer::Told {
                 error: 0,
                 numbers: Numbers::Name(NAME),
             },
-            41 => Answer::Told {
+        ),
+        (
+            Call::Draw { number: 6 },
+            Answer::Told {
                 error: 0,
                 numbers: Numbers::One(6),
             },
-            _ => Answer::Left { how: 2, number: 3 },
+        ),
+        (Call::Fault { kind: 3 }, Answer::Left { how: 2, number: 3 }),
+    ];
+
+    fn opened<M: Monitor>(heap: Global) -> Result<Session<M>, Fail> {
+        match session::open(heap, Limits { closed: 6, open: 3 }) {
+            Ok(session) => Ok(session),
+            Err(_) => Err(Fail::new("not opened")),
         }
     }
 
@@ -442,45 +389,28 @@ mod tests {
     fn same(rt: &impl Abort, found: Answer<'_>, expected: Answer<'_>) -> Result<(), Fail> {
         let mut one = [0u8; 200];
         let mut other = [0u8; 200];
-        let Ok(count) = answers::write(found, &mut one) else {
-            return Err(Fail::new("not written"));
-        };
-        let Ok(size) = answers::write(expected, &mut other) else {
-            return Err(Fail::new("not written"));
-        };
-        if size > 200 {
-            return Err(Fail::new("too long"));
-        }
-        assert!(rt; is(&one, count, &other[0..size]));
+        let count = answers::write(found, &mut one).map_err(|_error| "not written")?;
+        let size = answers::write(expected, &mut other).map_err(|_error| "not written")?;
+        let bytes = other.get(..size).ok_or("too long")?;
+        assert!(rt; one.get(..count) == Some(bytes));
         Ok(())
     }
 
     // Each call through the public call: what the machine is answered, and the bytes that the system is told.
     #[test]
     fn one_cell(rt: HostRuntime) -> Result<(), Fail> {
-        let Ok(mut session) = full_session::open(rt.alloc(), Limits { closed: 6, open: 3 }) else {
-            return Err(Fail::new("not opened"));
-        };
-        for row in 0..ROWS {
+        let mut session = opened::<Whole>(rt.alloc())?;
+        for (call, answer) in ONE_CELL {
             let mut bytes = [0u8; 200];
-            let Ok(count) = calls::write(asked(row), &mut bytes) else {
-                return Err(Fail::new("not written"));
-            };
-            if count > 200 {
-                return Err(Fail::new("too long"));
-            }
+            let count = calls::write(call, &mut bytes).map_err(|_error| "not written")?;
             let mut out = [0u8; 17];
-            let Ok(reply) = session.call(&bytes[0..count], &mut out) else {
+            let Ok(reply) = session.call(bytes.get(..count).ok_or("too long")?, &mut out) else {
                 return Err(Fail::new("not answered"));
             };
-            same(&rt, reply.answer, answered(row))?;
-            if reply.told > 17 {
-                return Err(Fail::new("too long"));
-            }
-            let Ok(heard) = answers::read(&out[0..reply.told]) else {
-                return Err(Fail::new("not read"));
-            };
-            same(&rt, heard, answers::told_to_system(answered(row)))?;
+            same(&rt, reply.answer, answer)?;
+            let told = out.get(..reply.told).ok_or("too long")?;
+            let heard = answers::read(told).map_err(|_error| "not read")?;
+            same(&rt, heard, answers::told_to_system(answer))?;
         }
         Ok(())
     }
@@ -488,94 +418,74 @@ mod tests {
     // What a page gets: the open page that was named, or zeros, whatever was there before.
     #[test]
     fn contents(rt: HostRuntime) -> Result<(), Fail> {
-        let Ok(mut session) = full_session::open(rt.alloc(), Limits { closed: 6, open: 3 }) else {
-            return Err(Fail::new("not opened"));
-        };
-        assert!(rt; session.write_open(2, &[17, 4, 8]));
-        assert!(rt; session.write_closed(3, &[1, 2, 3, 4]));
-        for row in 0..6u8 {
+        let mut session = opened::<Whole>(rt.alloc())?;
+        assert!(rt; session.write_open(2, &[17, 4, 8]).is_ok());
+        assert!(rt; session.write_closed(3, &[1, 2, 3, 4]).is_ok());
+        for (call, _) in ONE_CELL.iter().take(6) {
             let mut bytes = [0u8; 200];
-            let Ok(count) = calls::write(asked(row), &mut bytes) else {
-                return Err(Fail::new("not written"));
-            };
-            if count > 200 {
-                return Err(Fail::new("too long"));
-            }
+            let count = calls::write(*call, &mut bytes).map_err(|_error| "not written")?;
             let mut out = [0u8; 17];
-            assert!(rt; session.call(&bytes[0..count], &mut out).is_ok());
+            assert!(rt;
+                session
+                    .call(bytes.get(..count).ok_or("too long")?, &mut out)
+                    .is_ok()
+            );
         }
-        let Some(page) = session.closed_page(3) else {
-            return Err(Fail::new("no page"));
-        };
-        if page.len() < 4 {
-            return Err(Fail::new("too short"));
-        }
-        assert!(rt; page[0] == 17 && page[1] == 4 && page[2] == 8 && page[3] == 0);
+        let page = session.closed_page(3).ok_or("no page")?;
+        let words: &[u32] = &[17, 4, 8, 0];
+        assert!(rt; page.get(..4) == Some(words));
         Ok(())
     }
 
     // Bytes that are no call, and a slice that is too short.
     #[test]
     fn no_room(rt: HostRuntime) -> Result<(), Fail> {
-        let Ok(mut session) = full_session::open(rt.alloc(), Limits { closed: 6, open: 3 }) else {
-            return Err(Fail::new("not opened"));
-        };
+        let mut session = opened::<Whole>(rt.alloc())?;
         let mut out = [0u8; 17];
         let Ok(reply) = session.call(&[7, 1, 2], &mut out) else {
             return Err(Fail::new("not answered"));
         };
-        assert!(rt;
-            is(
-                &out,
-                reply.told,
-                &[0, 1, 0, 0, 0, 0, 0, 0, 0, 3, 0, 0, 0, 0, 0, 0, 0],
-            )
-        );
+        let expected: &[u8] = &[0, 1, 0, 0, 0, 0, 0, 0, 0, 3, 0, 0, 0, 0, 0, 0, 0];
+        assert!(rt; out.get(..reply.told) == Some(expected));
         let mut short = [0u8; 16];
         assert!(rt; session.call(&[0], &mut short).is_err());
         Ok(())
     }
 
-    #[test]
-    fn limits(rt: HostRuntime) {
-        assert!(rt; full_session::open(rt.alloc(), Limits { closed: 1, open: 0 }).is_err());
-        assert!(rt;
-            full_session::open(
-                rt.alloc(),
-                Limits {
-                    closed: 4097,
-                    open: 0,
-                },
-            )
-            .is_err()
-        );
-        assert!(rt;
-            full_session::open(
-                rt.alloc(),
-                Limits {
-                    closed: 2,
-                    open: 1048577,
-                },
-            )
-            .is_err()
-        );
-        assert!(rt; full_session::open(rt.alloc(), Limits { closed: 2, open: 0 }).is_ok());
+    fn opens<M: Monitor>(heap: Global, closed: u64, open: u64) -> bool {
+        session::open::<M>(heap, Limits { closed, open }).is_ok()
+    }
+
+    fn limits<M: Monitor>(rt: &impl Abort, heap: Global) {
+        assert!(rt; !opens::<M>(heap, 1, 0));
+        assert!(rt; !opens::<M>(heap, 4097, 0));
+        assert!(rt; !opens::<M>(heap, 2, 1048577));
+        assert!(rt; opens::<M>(heap, 2, 0));
     }
 
     #[test]
-    fn no_calls(rt: HostRuntime) -> Result<(), Fail> {
-        garbled(&rt, &[], 0)?;
-        garbled(&rt, &[12], 0)?;
-        garbled(&rt, &[255, 1], 0)?;
-        garbled(&rt, &[0, 0], 1)?;
-        garbled(&rt, &[7, 1, 2], 3)?;
-        garbled(
-            &rt,
-            &[
-                23, 1, 0, 0, 0, 0, 0, 0, 0, 0, 0, 0, 0, 0, 0, 0, 0, 0, 0, 0, 0, 0, 0, 0, 0, 4,
-            ],
-            25,
-        )?;
-        garbled(&rt, &[21, 1, 1], 3)
+    fn limits_of_either(rt: HostRuntime) {
+        limits::<Stage>(&rt, rt.alloc());
+        limits::<Whole>(&rt, rt.alloc());
+    }
+
+    // Pages are written and read, and why they are not.
+    fn written<M: Monitor>(rt: &impl Abort, heap: Global) -> Result<(), Fail> {
+        let mut session = opened::<M>(heap)?;
+        let many = [1u32; 1025];
+        assert!(rt; session.write_open(2, &[5]).is_ok());
+        assert!(rt; session.write_open(3, &many) == Err(NotWritten::NoSuchPage));
+        assert!(rt; session.write_closed(5, &many) == Err(NotWritten::TooManyWords));
+        let page = session.open_page(2).ok_or("no page")?;
+        let words: &[u32] = &[5, 0];
+        assert!(rt; page.get(..2) == Some(words));
+        assert!(rt; session.open_page(3).is_none());
+        Ok(())
+    }
+
+    #[test]
+    fn pages_of_either(rt: HostRuntime) -> Result<(), Fail> {
+        written::<Stage>(&rt, rt.alloc())?;
+        written::<Whole>(&rt, rt.alloc())
     }
 }

@@ -7,8 +7,8 @@ mod options;
 mod player;
 mod printer;
 
-pub use errors::Failed;
 use errors::Error;
+pub use errors::Failed;
 use options::{Asked, Prints, Source};
 use session::Monitor;
 use std::fs;

@@ -1,6 +1,5 @@
 // What the program is asked to do.
-use std::env;
-use std::fmt;
+use std::{env, fmt};
 use thiserror::Error;
 
 #[derive(Drop)]

@@ -1,9 +1,8 @@
 // What is printed: answers and pages, a line each.
 use answers::{Answer, Refusal};
 use std::alloc::Global;
-use std::fmt;
-use std::io;
 use std::io::{BufWriter, Write};
+use std::{fmt, io};
 
 #[derive(Drop)]
 pub struct Printer<W: Write + Drop> {

@@ -24,10 +24,10 @@ use std::marker::PhantomData;
 pub fn open<M: Monitor>(heap: Global, limits: Limits) -> Result<Session<M>, Unopened>
     ensures { MatchResult result
         (λ s. (good_limits limits.closed limits.«open» ≡ true)
-            × (s.memory.items ≡ new_memory limits.closed limits.«open»)
-            × (s.closed.items ≡ replicate (1024 * limits.closed) 0)
-            × (s.«open».items ≡ replicate (1024 * limits.«open») 0)
-            × M.holds (limits_of limits.closed limits.«open») [] s.memory.items s.closed.items s.«open».items)
+        × (s.memory.items ≡ new_memory limits.closed limits.«open»)
+        × (s.closed.items ≡ replicate (1024 * limits.closed) 0)
+        × (s.«open».items ≡ replicate (1024 * limits.«open») 0)
+        × M.holds (limits_of limits.closed limits.«open») [] s.memory.items s.closed.items s.«open».items)
         (λ e. Unopens limits.closed limits.«open» e) }
 {
     if !monitor::in_range(limits) {
@@ -83,7 +83,7 @@ impl<M: Monitor> Session<M> {
         ensures events { (l : ModelLimits) (es : List Event) →
             M.holds l es self.old.memory.items self.old.closed.items self.old.«open».items →
             M.holds l (if is_ok result then wrote_open page (whole_page words.now) ∷ es else es)
-                self.new.memory.items self.new.closed.items self.new.«open».items }
+            self.new.memory.items self.new.closed.items self.new.«open».items }
     {
         flat::write(self.open.as_mut_slice(), page, words)
     }
@@ -98,7 +98,7 @@ impl<M: Monitor> Session<M> {
         ensures events { (l : ModelLimits) (es : List Event) →
             M.holds l es self.old.memory.items self.old.closed.items self.old.«open».items →
             M.holds l (if is_ok result then wrote page (whole_page words.now) ∷ es else es)
-                self.new.memory.items self.new.closed.items self.new.«open».items }
+            self.new.memory.items self.new.closed.items self.new.«open».items }
     {
         flat::write(self.closed.as_mut_slice(), page, words)
     }

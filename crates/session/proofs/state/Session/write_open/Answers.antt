@@ -11,7 +11,11 @@ returns-clause-events g c l es h =
 
 pub invariant_of-self : goal.invariant_of-self
 invariant_of-self g c = record {
-  made = ∥∥₁_map c.args.self.now.made (λ y. (y.0, _, open_written g.M.Monitor.holds c.args.self.now.open c.args.page c.args.words.now (λ i. omega (arith, c.type_inv.words i))
-      (is_ok c.write.result) _ c.write.new.all c.as_mut_slice.ensures.value c.write.auto.all c.write.ensures.done c.write.ensures.after
-      g.met.M.Monitor.open_writes_hold y.0 y.1 _ _ y.2));
+  made = ∥∥₁_map c.args.self.now.made (λ y. (
+    y.0,
+    _,
+    open_written g.M.Monitor.holds c.args.self.now.open c.args.page c.args.words.now (λ i. omega (arith, c.type_inv.words i))
+        (is_ok c.write.result) _ c.write.new.all c.as_mut_slice.ensures.value c.write.auto.all c.write.ensures.done c.write.ensures.after
+        g.met.M.Monitor.open_writes_hold y.0 y.1 _ _ y.2,
+  ));
 }
