@@ -34,7 +34,7 @@ out of range: closed pages from 2 to 4096, open pages up to 1048576."
     );
 }
 
-fn play<M: Monitor>(rt: &HostRuntime, source: &Source, prints: Prints) -> Result<(), Error> {
+fn play_source<M: Monitor>(rt: &HostRuntime, source: &Source, prints: Prints) -> Result<(), Error> {
     let heap = rt.alloc();
     match source {
         Source::Input => player::play::<M, _, _>(heap, rt.stdin(), rt.stdout(), prints),
@@ -52,7 +52,7 @@ pub fn run<M: Monitor>(rt: &HostRuntime, program: &str) -> Result<(), Failed> {
             help(rt, program);
             Ok(())
         }
-        Ok(Asked::Play { source, prints }) => match play::<M>(rt, &source, prints) {
+        Ok(Asked::Play { source, prints }) => match play_source::<M>(rt, &source, prints) {
             Ok(()) => Ok(()),
             Err(error) => {
                 let _ = eprintln!(rt; "{program}: {source}: {error}");

@@ -26,7 +26,7 @@ fn answers(what: Line) -> bool {
 }
 
 impl<M: Monitor, W: Write + Drop> Player<M, W> {
-    // One call, by its bytes. Seventeen bytes are enough for what the system is told of any.
+    // One call, by its bytes. Seventeen bytes are enough for what the system is told of any, and they are an answer.
     fn call(&mut self, bytes: &[u8]) -> io::Result<()> {
         let mut told = [0u8; 17];
         let Ok(reply) = self.session.call(bytes, &mut told) else {
@@ -106,6 +106,7 @@ fn begin<M: Monitor, R: Read + Drop>(
     heap: Global,
     lines: &mut Lines<R>,
 ) -> Result<Session<M>, Error> {
+    // By a count, since a file may have no end, and each loop has one.
     for _ in 0..u64::MAX {
         let Some((line, text)) = lines.read()? else {
             break;

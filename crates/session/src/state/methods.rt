@@ -73,7 +73,8 @@ impl<M: Monitor> Session<M> {
         )
     }
 
-    // The system writes an open page: the words given, and zeros behind them.
+    // The system writes an open page: the words given, and zeros behind them. Open and closed pages have a method each, since which of them
+    // a call reads or changes is its contract.
     pub fn write_open(&mut self, page: u64, words: &[u32]) -> Result<(), NotWritten>
         ensures done { is_ok result ≡ page_fits self.old.«open».items page words.now }
         ensures why { IsErrOf result NotWritten.NoSuchPage ↔ (length self.old.«open».items / 1024 ≤ page) }
