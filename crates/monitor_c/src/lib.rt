@@ -7,24 +7,40 @@ ghost use Rattle.monitor_c.specs.Replied.{fits, OpenedAs, Replied};
 
 use full_monitor::Limits;
 
+// So many numbers of the memory are its header, and so many its record of a closed page.
+const HEADER: usize = 256;
+
+const RECORD: u64 = 2048;
+
+// So many words are on a page, and so many bytes hold whatever the system is told.
+const WORDS: u64 = 1024;
+
+const LONGEST: usize = 17;
+
+// So many pages there are at most.
+const MOST_CLOSED: u64 = 4096;
+
+const MOST_OPEN: u64 = 1048576;
+
 // Whether the memory has its header, and the slices are as long as that says, with room for what the system is told.
 fn fits(memory: &[u64], closed: &[u32], open: &[u32], told: &[u8]) -> bool
     ensures { result ≡ fits memory.now closed.now «open».now told.now }
 {
-    if memory.len() < 256 {
+    if memory.len() < HEADER {
         return false;
     }
-    let pages = memory[0];
-    let opens = memory[1];
-    pages <= 4096
-        && opens <= 1048576
-        && memory.len() as u64 == 256 + pages * 2048
-        && closed.len() as u64 == pages * 1024
-        && open.len() as u64 == opens * 1024
-        && told.len() >= 17
+    let pages = full_pages::pages(memory);
+    let opens = full_pages::opens(memory);
+    pages <= MOST_CLOSED
+        && opens <= MOST_OPEN
+        && memory.len() as u64 == HEADER as u64 + pages * RECORD
+        && closed.len() as u64 == pages * WORDS
+        && open.len() as u64 == opens * WORDS
+        && told.len() >= LONGEST
 }
 
-// Opens the monitor; false, with nothing written, where limits are out of range or slices don't fit them.
+// Opens the monitor; false, with nothing written, where limits are out of range or slices don't fit them. The C interface has no Result,
+// so it is a bool here, and 0 for a call that is not taken.
 #[unsafe(no_mangle)]
 pub extern "C" fn monitor_open(
     closed_pages: u64,
@@ -39,10 +55,7 @@ pub extern "C" fn monitor_open(
         closed: closed_pages,
         open: open_pages,
     };
-    match full_monitor::open(limits, memory, closed, open) {
-        Ok(_) => true,
-        Err(_) => false,
-    }
+    full_monitor::open(limits, memory, closed, open).is_ok()
 }
 
 // Takes a call, or refuses it; how many bytes the system is told, or 0 where slices don't fit.
@@ -61,8 +74,5 @@ pub extern "C" fn monitor_call(
     if !fits(memory, closed, open, told) {
         return 0;
     }
-    match full_monitor::call(memory, closed, open, bytes, told) {
-        Ok(reply) => reply.told,
-        Err(_) => 0,
-    }
+    full_monitor::call(memory, closed, open, bytes, told).map_or(0, |reply| reply.told)
 }
