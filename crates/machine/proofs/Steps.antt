@@ -1,14 +1,17 @@
 -- A run, step by step.
 use Rattle.std.proofs.Common.{◌≡◌, ℕ, suc, ◌+◌, ◌-◌, ◌<◌, List, Some, None, sym, refl, ap, ◌∙◌, ap₂, arith}
 use Rattle.std.specs.Option.{option_map}
+use Rattle.std.specs.declared.ops.ControlFlow.{ControlFlow}
+use Rattle.std.specs.declared.ops.ControlFlow.TheVariants.{Continue, Break}
+use Rattle.fields.specs.declared.values.Registers.{Registers}
 use Rattle.model.specs.Calls.{by_cell}
 use Rattle.model.specs.Processor.{Step, moves, stores, asks, Came, then, steps}
 use Rattle.calls.specs.Meaning.{call_of}
 use Rattle.calls.specs.declared.call.Call.{Call}
 use Rattle.machine.specs.Instructions.{made_up}
 use Rattle.machine.specs.Lent.{Words, lent, looked}
-use Rattle.machine.specs.Came.{step_registers, step_ends, step_words, Comes, run_of}
-use Rattle.machine.specs.declared.values.Stepped.{Stepped}
+use Rattle.machine.specs.Came.{left, ended_with, step_registers, step_ends, step_words, Comes, run_of}
+use Rattle.machine.specs.declared.values.Ran.{Ran}
 
 module _ (m : List ℕ) (t : ℕ) (go : List ℕ → Words → Came Words) (w : Words) where
   -- it did not end
@@ -34,7 +37,7 @@ module _ (m : List ℕ) (t : ℕ) (go : List ℕ → Words → Came Words) (w : 
 more : (n i : ℕ) → i < n → n - i ≡ suc (n - (i + 1))
 more n i h = omega arith
 
-module _ (m : List ℕ) (t n i chance : ℕ) (low : i < n) (rs : List ℕ) (before after : Words) (r : Stepped)
+module _ (m : List ℕ) (t n i chance : ℕ) (low : i < n) (rs : List ℕ) (before after : Words) (r : ControlFlow Ran Registers)
     (k : Comes m t before after (made_up rs (looked m t before.closed_pages before.open_pages) chance) r) where
   first : run_of m t (n - i) chance rs before
       ≡ then (lent m t) (steps (lent m t) made_up (n - (i + 1)) chance) before
@@ -42,18 +45,21 @@ module _ (m : List ℕ) (t n i chance : ℕ) (low : i < n) (rs : List ℕ) (befo
   unfolding steps
   first = ap (λ j. run_of m t j chance rs before) (more n i low)
 
-  pub went_on : r.ends ≡ None → run_of m t (n - i) chance rs before ≡ run_of m t (n - (i + 1)) chance r.registers.words after
-  went_on e =
-      first ∙ went m t (steps (lent m t) made_up (n - (i + 1)) chance) before _ (sym k.ends ∙ ap (option_map call_of) e)
-      ∙ ap₂ (λ qs w. run_of m t (n - (i + 1)) chance qs w) (sym k.registers) (sym k.words)
+  pub went_on : (next : Registers) → r ≡ Continue next →
+      run_of m t (n - i) chance rs before ≡ run_of m t (n - (i + 1)) chance next.words after
+  went_on next h =
+      first ∙ went m t (steps (lent m t) made_up (n - (i + 1)) chance) before _
+      (sym k.ends ∙ ap (λ x. option_map call_of (ended_with x)) h)
+      ∙ ap₂ (λ qs w. run_of m t (n - (i + 1)) chance qs w) (sym k.registers ∙ ap (λ x. (left x).words) h) (sym k.words)
 
-  pub it_ended : (e : Call) → r.ends ≡ Some e →
-      (r.registers.words ≡ (run_of m t (n - i) chance rs before).registers)
-      × (call_of e ≡ by_cell (run_of m t (n - i) chance rs before).ends) × (after ≡ (run_of m t (n - i) chance rs before).memory)
+  pub it_ended : (e : Ran) → r ≡ Break e →
+      (e.registers.words ≡ (run_of m t (n - i) chance rs before).registers)
+      × (call_of e.ends ≡ by_cell (run_of m t (n - i) chance rs before).ends) × (after ≡ (run_of m t (n - i) chance rs before).memory)
   it_ended e h =
       let d = ended m t (steps (lent m t) made_up (n - (i + 1)) chance) before
-      (made_up rs (looked m t before.closed_pages before.open_pages) chance) e (sym k.ends ∙ ap (option_map call_of) h) in (
-        k.registers ∙ sym d.registers ∙ sym (ap (λ x. x.registers) first),
+      (made_up rs (looked m t before.closed_pages before.open_pages) chance) e.ends
+      (sym k.ends ∙ ap (λ x. option_map call_of (ended_with x)) h) in (
+        sym (ap (λ x. (left x).words) h) ∙ k.registers ∙ sym d.registers ∙ sym (ap (λ x. x.registers) first),
         sym d.ends ∙ sym (ap (λ x. by_cell x.ends) first),
         k.words ∙ sym d.memory ∙ sym (ap (λ x. x.memory) first),
       )

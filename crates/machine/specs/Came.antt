@@ -1,6 +1,8 @@
 -- What a step, and so many steps, come to on the lent words.
 use Rattle.std.specs.Prelude.{◌≡◌, ℕ, suc, ◌+◌, ◌*◌, List, [], ◌∷◌, take, Some, None, Option}
 use Rattle.std.specs.Option.{option_map}
+use Rattle.std.specs.declared.ops.ControlFlow.{ControlFlow}
+use Rattle.std.specs.declared.ops.ControlFlow.TheVariants.{Continue, Break}
 use Rattle.model.specs.Calls as model
 use Rattle.model.specs.Calls.{by_cell}
 use Rattle.model.specs.Pages.{Cell, cell}
@@ -11,11 +13,12 @@ use Rattle.model.specs.Machine.{Machine}
 use Rattle.model.specs.Worlds.{World, ran, ending, after_run}
 use Rattle.model.specs.Processor.{Step, moves, stores, asks, Came, steps, machine_of}
 use Rattle.calls.specs.Meaning.{call_of}
+use Rattle.calls.specs.declared.call.Call.{Call}
+use Rattle.fields.specs.declared.values.Registers.{Registers}
 use Rattle.full_pages.specs.Flat.{flat}
 use Rattle.full_monitor.specs.Called.{Made}
 use Rattle.machine.specs.Instructions.{made_up, with_register, low}
 use Rattle.machine.specs.Lent.{Words, lent}
-use Rattle.machine.specs.declared.values.Stepped.{Stepped}
 use Rattle.machine.specs.declared.values.Ran.{Ran}
 
 -- the registers after a step, the call that it ended with, if it did, and the words
@@ -34,10 +37,19 @@ step_words m t w (moves rs) = w
 step_words m t w (stores rs x v) = (lent m t).store w x v
 step_words m t w (asks rs c) = w
 
+-- the registers that a step left, and the call that it ended with, if it did
+abbrev pub left : ControlFlow Ran Registers → Registers
+left (Continue rs) = rs
+left (Break r) = r.registers
+
+abbrev pub ended_with : ControlFlow Ran Registers → Option Call
+ended_with (Continue rs) = None
+ended_with (Break r) = Some r.ends
+
 -- It comes to that step.
-pub record Comes (m : List ℕ) (t : ℕ) (before after : Words) (s : Step) (r : Stepped) : Type 0 where
-  pub registers : r.registers.words ≡ step_registers s
-  pub ends : option_map call_of r.ends ≡ step_ends s
+pub record Comes (m : List ℕ) (t : ℕ) (before after : Words) (s : Step) (r : ControlFlow Ran Registers) : Type 0 where
+  pub registers : (left r).words ≡ step_registers s
+  pub ends : option_map call_of (ended_with r) ≡ step_ends s
   pub words : after ≡ step_words m t before s
 
 -- A run: so many steps of the made_up processor, over the lent words.

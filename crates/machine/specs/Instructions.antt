@@ -1,10 +1,11 @@
 -- The made_up processor: what each instruction is as a word, and what it does.
-use Rattle.std.specs.Prelude.{ℕ, ◌+◌, ◌-◌, ◌*◌, ◌/◌, ◌%◌, Bool, true, false, cond, not, List, ◌==◌, nat_lt, slice_index, slice_set}
+use Rattle.std.specs.Prelude.{◌≡◌, ◌<◌, ℕ, Result, MatchResult, ◌+◌, ◌-◌, ◌*◌, ◌/◌, ◌%◌, Bool, true, false, cond, not, List, ◌==◌, nat_lt, slice_index, slice_set}
 use Rattle.model.specs.Calls.{CellCall, leave, fault, grow, shrink, extend, who, draw}
 use Rattle.model.specs.Processor.{Seen, unseen, seen, Step, moves, stores, asks, Processor}
 use Rattle.full_pages.specs.Packing.{place_from}
 use Rattle.machine.specs.declared.values.Instruction.{Instruction}
 use Rattle.machine.specs.declared.values.Instruction.TheVariants.{Unknown, Set, High, Move, Add, Subtract, Load, Store, Compare, Jump, Go, Ask}
+use Rattle.machine.specs.declared.decoding.UnknownWhen.{UnknownWhen}
 use Rattle.machine.specs.declared.values.When.{When}
 use Rattle.machine.specs.declared.values.When.TheVariants.{Always, Less, Equal, Greater, Unequal}
 
@@ -13,6 +14,17 @@ abbrev pub jump_when : ℕ → ℕ → Instruction
 jump_when k n =
     cond (k == 0) (Jump Always n) (cond (k == 1) (Jump Less n) (cond (k == 2) (Jump Equal n) (cond (k == 3) (Jump Greater n)
     (cond (k == 4) (Jump Unequal n) Unknown))))
+
+-- the same of a number alone, and what is promised of reading one
+abbrev pub when_number : When → ℕ
+when_number Always = 0
+when_number Less = 1
+when_number Equal = 2
+when_number Greater = 3
+when_number Unequal = 4
+
+abbrev pub Whens : ℕ → Result When UnknownWhen → Type 0
+Whens k r = MatchResult r (λ w. when_number w ≡ k) (λ e. (e.0 ≡ k) × (4 < k))
 
 abbrev pub decoded_by : ℕ → ℕ → ℕ → ℕ → ℕ → Instruction
 decoded_by k a b c n =

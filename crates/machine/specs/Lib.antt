@@ -1,4 +1,5 @@
 pub mod Instructions
+pub mod Faults
 pub mod Lent
 pub mod Meaning
 pub mod Came

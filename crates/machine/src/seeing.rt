@@ -9,54 +9,62 @@ ghost use Rattle.machine.specs.Meaning.{seen_of};
 use crate::values::Seen;
 use full_pages::Slot;
 
-// The slot of an address, if its page is there.
+// How many places a top table has, and slots a table.
+const PLACES: u64 = 256;
+
+const SLOTS: u64 = 1024;
+
+// How many words a page has, each of four bytes.
+const WORDS: usize = 1024;
+
+const PAGE_BYTES: u64 = 4096;
+
+// The slot of an address; one whose page is not there counts as having nothing.
 fn slot_for(memory: &[u64], top: u64, address: u32) -> Slot
     requires { Fit memory.now top }
     ensures { slot_of result ≡ slot_for memory.now top address }
 {
-    let table = address as u64 / 4194304;
-    if table >= 256 {
+    let address = u64::from(address);
+    let table = address / (SLOTS * PAGE_BYTES);
+    if table >= PLACES {
         return Slot::Nothing;
     }
     let Some(table) = lookups::table_of(memory, top, table) else {
         return Slot::Nothing;
     };
-    match full_pages::slot_at(memory, table, address as u64 / 4096 % 1024) {
-        Slot::Nothing => Slot::Nothing,
-        Slot::Closed { page, write, run } => {
-            if page >= full_pages::pages(memory) {
-                return Slot::Nothing;
-            }
-            Slot::Closed { page, write, run }
-        }
-        Slot::Opened { page, write } => {
-            if page >= full_pages::opens(memory) {
-                return Slot::Nothing;
-            }
-            Slot::Opened { page, write }
-        }
+    match full_pages::slot_at(memory, table, address / PAGE_BYTES % SLOTS) {
+        Slot::Closed { page, .. } if page >= full_pages::pages(memory) => Slot::Nothing,
+        Slot::Opened { page, .. } if page >= full_pages::opens(memory) => Slot::Nothing,
+        slot => slot,
     }
 }
 
-// What is seen at an address.
-pub fn look(memory: &[u64], closed: &[u32], open: &[u32], top: u64, address: u32) -> Seen
+// Which word of its page an address is that of.
+fn word_number(address: u32) -> usize
+    ensures { result ≡ word_number address }
+{
+    address as usize / 4 % WORDS
+}
+
+// What is seen at an address, if anything is.
+pub fn look(memory: &[u64], closed: &[u32], open: &[u32], top: u64, address: u32) -> Option<Seen>
     requires fit { Fit memory.now top }
     requires closed_len { (length closed.now ≡ slice_index memory.now 0 * 1024) × (length «open».now ≡ slice_index memory.now 1 * 1024) }
     ensures { seen_of result ≡ looked memory.now top closed.now «open».now address }
 {
-    let word = address as usize / 4 % 1024;
+    let word = word_number(address);
     match slot_for(memory, top, address) {
-        Slot::Nothing => Seen::Unseen,
-        Slot::Closed { page, write, run } => Seen::Word {
+        Slot::Nothing => None,
+        Slot::Closed { page, write, run } => Some(Seen {
             write,
             run,
-            word: closed[page as usize * 1024 + word],
-        },
-        Slot::Opened { page, write } => Seen::Word {
+            word: closed[page as usize * WORDS + word],
+        }),
+        Slot::Opened { page, write } => Some(Seen {
             write,
             run: false,
-            word: open[page as usize * 1024 + word],
-        },
+            word: open[page as usize * WORDS + word],
+        }),
     }
 }
 
@@ -75,18 +83,18 @@ pub fn store(
     ensures closed { closed.new ≡ closed_put closed.old (word_number address) value (slot_for memory.now top address) }
     ensures open { «open».new ≡ open_put «open».old (word_number address) value (slot_for memory.now top address) }
 {
-    let word = address as usize / 4 % 1024;
+    let word = word_number(address);
     match slot_for(memory, top, address) {
         Slot::Nothing => false,
         Slot::Closed { page, write, .. } => {
             if write {
-                closed[page as usize * 1024 + word] = value;
+                closed[page as usize * WORDS + word] = value;
             }
             write
         }
         Slot::Opened { page, write } => {
             if write {
-                open[page as usize * 1024 + word] = value;
+                open[page as usize * WORDS + word] = value;
             }
             write
         }

@@ -1,17 +1,26 @@
 // One step, and so many of them.
 ghost use Rattle.std.specs.Prelude.{◌≡◌, ◌*◌, ◌<◌, length, Some, None, slice_index};
 ghost use Rattle.std.specs.Option.{option_map};
+ghost use Rattle.std.specs.Ordering.{ordering_index};
 ghost use Rattle.model.specs.Calls.{by_cell, fault};
 ghost use Rattle.calls.specs.Meaning.{call_of};
 ghost use Rattle.machine.specs.Lent.{Fit, looked, Words};
-ghost use Rattle.machine.specs.Came.{Comes, Runs, Refines};
-ghost use Rattle.machine.specs.Instructions.{register, with_register, order, holds, asked, loaded, stored, executed, made_up};
+ghost use Rattle.machine.specs.Came.{left, ended_with, Comes, Runs, Refines};
+ghost use Rattle.machine.specs.Faults.{kind_number};
+ghost use Rattle.machine.specs.Instructions.{register, with_register, order, holds, asked, jumped, loaded, stored, executed, made_up};
 
-use crate::decoding::decode;
 use crate::seeing::{look, store};
-use crate::values::{Instruction, Ran, Seen, Stepped, When};
+use crate::values::{FaultKind, Instruction, Ran, Seen, Stepped, When};
 use calls::Call;
 use fields::{Numbers, Registers};
+use std::cmp::Ordering;
+use std::ops::ControlFlow::{Break, Continue};
+
+// The register that has the address of the next instruction.
+const NEXT: u32 = 15;
+
+// The one that has what the last comparison came to.
+const COMPARED: usize = 16;
 
 // The register that a field names, by its low four bits; and another word put there.
 fn get(registers: Registers, index: u32) -> u32
@@ -28,26 +37,42 @@ pub fn put(registers: Registers, index: u32, word: u32) -> Registers
     Registers { words }
 }
 
-// 0 less, 1 equal, 2 greater.
+// The number that register 16 keeps of a comparison.
+fn kept(ordering: Ordering) -> u32
+    ensures { result ≡ ordering_index ordering }
+{
+    match ordering {
+        Ordering::Less => 0,
+        Ordering::Equal => 1,
+        Ordering::Greater => 2,
+    }
+}
+
 fn compare(left: u32, right: u32) -> u32
     ensures { result ≡ order left right }
 {
-    if left < right {
-        return 0;
-    }
-    if left == right { 1 } else { 2 }
+    kept(left.cmp(&right))
 }
 
-fn taken(when: When, order: u32) -> bool
-    ensures { result ≡ holds when order }
+// A thread goes on with any words, so register 16 may hold a number that no comparison comes to.
+fn taken(when: When, number: u32) -> bool
+    ensures { result ≡ holds when number }
 {
     match when {
         When::Always => true,
-        When::Less => order == 0,
-        When::Equal => order == 1,
-        When::Greater => order == 2,
-        When::Unequal => order != 1,
+        When::Less => number == kept(Ordering::Less),
+        When::Equal => number == kept(Ordering::Equal),
+        When::Greater => number == kept(Ordering::Greater),
+        When::Unequal => number != kept(Ordering::Equal),
     }
+}
+
+// A jump is so many words forth or back, counted from 32,768, from the instruction behind it.
+fn jumped(registers: Registers, words: u32) -> Registers
+    ensures { result.words ≡ jumped registers.words words }
+{
+    let bytes = words.wrapping_sub(32768).wrapping_mul(4);
+    put(registers, NEXT, get(registers, NEXT).wrapping_add(bytes))
 }
 
 // The call that a program asks for, with what registers 0 and 1 have; none but these are known.
@@ -77,28 +102,22 @@ fn ask(call: u32, registers: Registers, chance: u32) -> Call<'static>
         27 => Call::Draw {
             number: chance as u64,
         },
-        _ => Call::Fault { kind: 5 },
+        _ => Call::Fault {
+            kind: FaultKind::NoCall.number(),
+        },
     }
 }
 
-// It goes on.
-fn goes(registers: Registers) -> Stepped
-    ensures { (result.registers ≡ registers) × (result.ends ≡ None) }
+// It ends with a fault.
+fn faults(registers: Registers, kind: FaultKind) -> Stepped
+    ensures { (left result ≡ registers) × (option_map call_of (ended_with result) ≡ Some (by_cell (fault (kind_number kind)))) }
 {
-    Stepped {
+    Break(Ran {
         registers,
-        ends: None,
-    }
-}
-
-// It ends with a fault of a kind.
-fn faults(registers: Registers, kind: u64) -> Stepped
-    ensures { (result.registers ≡ registers) × (option_map call_of result.ends ≡ Some (by_cell (fault kind))) }
-{
-    Stepped {
-        registers,
-        ends: Some(Call::Fault { kind }),
-    }
+        ends: Call::Fault {
+            kind: kind.number(),
+        },
+    })
 }
 
 // A word is loaded into a register.
@@ -118,8 +137,8 @@ fn load(
         (loaded registers.words to (looked memory.now top closed.now «open».now address)) result }
 {
     match look(memory, closed, open, top, address) {
-        Seen::Unseen => faults(registers, 2),
-        Seen::Word { word, .. } => goes(put(registers, to, word)),
+        Some(seen) => Continue(put(registers, to, seen.word)),
+        None => faults(registers, FaultKind::NotSeen),
     }
 }
 
@@ -140,9 +159,9 @@ fn save(
         (stored registers.words address value (looked memory.now top closed.old «open».old address)) result }
 {
     if store(memory, closed, open, top, address, value) {
-        goes(registers)
+        Continue(registers)
     } else {
-        faults(registers, 3)
+        faults(registers, FaultKind::NotWritten)
     }
 }
 
@@ -163,22 +182,22 @@ fn execute(
         (executed instruction registers.words (looked memory.now top closed.old «open».old) chance) result }
 {
     match instruction {
-        Instruction::Unknown => faults(registers, 4),
-        Instruction::Set { to, number } => goes(put(registers, to, number)),
+        Instruction::Unknown => faults(registers, FaultKind::NoInstruction),
+        Instruction::Set { to, number } => Continue(put(registers, to, number)),
         Instruction::High { to, number } => {
             let word = number
-                .wrapping_mul(65536)
-                .wrapping_add(get(registers, to) % 65536);
-            goes(put(registers, to, word))
+                .wrapping_mul(1 << 16)
+                .wrapping_add(get(registers, to) % (1 << 16));
+            Continue(put(registers, to, word))
         }
-        Instruction::Move { to, from } => goes(put(registers, to, get(registers, from))),
+        Instruction::Move { to, from } => Continue(put(registers, to, get(registers, from))),
         Instruction::Add { to, left, right } => {
             let sum = get(registers, left).wrapping_add(get(registers, right));
-            goes(put(registers, to, sum))
+            Continue(put(registers, to, sum))
         }
         Instruction::Subtract { to, left, right } => {
             let rest = get(registers, left).wrapping_sub(get(registers, right));
-            goes(put(registers, to, rest))
+            Continue(put(registers, to, rest))
         }
         Instruction::Load { to, base, words } => {
             let address = get(registers, base).wrapping_add(words.wrapping_mul(4));
@@ -191,23 +210,20 @@ fn execute(
         }
         Instruction::Compare { left, right } => {
             let mut words = registers.words;
-            words[16] = compare(get(registers, left), get(registers, right));
-            goes(Registers { words })
+            words[COMPARED] = compare(get(registers, left), get(registers, right));
+            Continue(Registers { words })
         }
         Instruction::Jump { when, words } => {
-            if !taken(when, registers.words[16]) {
-                return goes(registers);
+            if !taken(when, registers.words[COMPARED]) {
+                return Continue(registers);
             }
-            let next = registers.words[15]
-                .wrapping_add(words.wrapping_mul(4))
-                .wrapping_add(4294836224);
-            goes(put(registers, 15, next))
+            Continue(jumped(registers, words))
         }
-        Instruction::Go { to } => goes(put(registers, 15, get(registers, to))),
-        Instruction::Ask { call } => Stepped {
+        Instruction::Go { to } => Continue(put(registers, NEXT, get(registers, to))),
+        Instruction::Ask { call } => Break(Ran {
             registers,
-            ends: Some(ask(call, registers, chance)),
-        },
+            ends: ask(call, registers, chance),
+        }),
     }
 }
 
@@ -226,16 +242,14 @@ fn step(
         (record { closed_pages = closed.new; open_pages = «open».new })
         (made_up registers.words (looked memory.now top closed.old «open».old) chance) result }
 {
-    let at = registers.words[15];
+    let at = get(registers, NEXT);
     match look(memory, closed, open, top, at) {
-        Seen::Unseen => faults(registers, 1),
-        Seen::Word { run, word, .. } => {
-            if !run {
-                return faults(registers, 1);
-            }
-            let next = put(registers, 15, at.wrapping_add(4));
-            execute(decode(word), memory, closed, open, top, next, chance)
+        Some(seen) if seen.run => {
+            let instruction = Instruction::from(seen.word);
+            let next = put(registers, NEXT, at.wrapping_add(4));
+            execute(instruction, memory, closed, open, top, next, chance)
         }
+        _ => faults(registers, FaultKind::NotRun),
     }
 }
 
@@ -255,11 +269,10 @@ fn go(
         (record { closed_pages = closed.new; open_pages = «open».new }) steps chance registers.words result }
 {
     let mut registers = registers;
-    for done in 0..steps {
-        let stepped = step(memory, closed, open, top, registers, chance);
-        registers = stepped.registers;
-        if let Some(ends) = stepped.ends {
-            return Ran { registers, ends };
+    for _done in 0..steps {
+        match step(memory, closed, open, top, registers, chance) {
+            Continue(next) => registers = next,
+            Break(ran) => return ran,
         }
     }
     Ran {

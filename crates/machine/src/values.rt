@@ -1,6 +1,10 @@
 // What the made-up processor works with.
+ghost use Rattle.std.specs.Prelude.{◌≡◌};
+ghost use Rattle.machine.specs.Faults.{kind_number};
+
 use calls::Call;
 use fields::Registers;
+use std::ops::ControlFlow;
 
 // When a jump is taken, by what the last comparison came to.
 #[derive(Clone, Copy)]
@@ -29,23 +33,44 @@ pub enum Instruction {
     Ask { call: u32 },
 }
 
-// What is seen at an address: nothing, or a word.
+// A word that is seen at an address, and whether it may be written, and run.
 #[derive(Clone, Copy)]
-pub enum Seen {
-    Unseen,
-    Word { write: bool, run: bool, word: u32 },
+pub struct Seen {
+    pub write: bool,
+    pub run: bool,
+    pub word: u32,
 }
 
-// What a step, or a run, comes to: the registers, and the call that ended it, if one did.
+// Why a step ends with a fault.
 #[derive(Clone, Copy)]
-pub struct Stepped {
-    pub registers: Registers,
-    pub ends: Option<Call<'static>>,
+pub enum FaultKind {
+    NotRun,
+    NotSeen,
+    NotWritten,
+    NoInstruction,
+    NoCall,
 }
 
-// What a run comes to.
+impl FaultKind {
+    pub fn number(self) -> u64
+        ensures { result ≡ kind_number self }
+    {
+        match self {
+            FaultKind::NotRun => 1,
+            FaultKind::NotSeen => 2,
+            FaultKind::NotWritten => 3,
+            FaultKind::NoInstruction => 4,
+            FaultKind::NoCall => 5,
+        }
+    }
+}
+
+// What a run comes to: the registers, and the call that ended it.
 #[derive(Clone, Copy)]
 pub struct Ran {
     pub registers: Registers,
     pub ends: Call<'static>,
 }
+
+// A step goes on with registers, or ends the run.
+pub type Stepped = ControlFlow<Ran, Registers>;

@@ -7,20 +7,21 @@ ghost use Rattle.monitor_c.specs.Replied.{fits, OpenedAs, Replied};
 
 use full_monitor::Limits;
 
-// So many numbers of the memory are its header, and so many its record of a closed page.
+// How many numbers the memory's header has, and its record of a closed page.
 const HEADER: usize = 256;
 
 const RECORD: u64 = 2048;
 
-// So many words are on a page, and so many bytes hold whatever the system is told.
+// How many words a page has.
 const WORDS: u64 = 1024;
 
-const LONGEST: usize = 17;
-
-// So many pages there are at most.
+// How many closed pages and open ones there are at most.
 const MOST_CLOSED: u64 = 4096;
 
 const MOST_OPEN: u64 = 1048576;
+
+// How many bytes hold whatever the system is told.
+const LONGEST: usize = 17;
 
 // Whether the memory has its header, and the slices are as long as that says, with room for what the system is told.
 fn fits(memory: &[u64], closed: &[u32], open: &[u32], told: &[u8]) -> bool

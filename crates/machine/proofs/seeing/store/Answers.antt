@@ -17,7 +17,7 @@ returns-then-write c =
     let d = in_closed c.args.closed.now c.args.open.now (word_number c.args.address) c.args.value
     (slot_for c.args.memory.now c.args.top c.args.address)
     c.in-Closed.page c.in-Closed.write c.in-Closed.run' true (sym c.slot_for.ensures ∙ ap slot_of c.in-Closed.is) c.if-write.true in
-    record { may = d.may; closed = d.closed_pages; «open» = d.open_pages }
+    rw c.word_number-word.ensures (record { may = d.may; closed = d.closed_pages; «open» = d.open_pages })
 
 pub returns-else-write : goal.returns-else-write
 returns-else-write c =
@@ -31,7 +31,7 @@ returns-then-write-2 c =
     let d = in_open c.args.closed.now c.args.open.now (word_number c.args.address) c.args.value
     (slot_for c.args.memory.now c.args.top c.args.address)
     c.in-Opened.page c.in-Opened.write true (sym c.slot_for.ensures ∙ ap slot_of c.in-Opened.is) c.if-write-2.true in
-    record { may = d.may; closed = d.closed_pages; «open» = d.open_pages }
+    rw c.word_number-word.ensures (record { may = d.may; closed = d.closed_pages; «open» = d.open_pages })
 
 pub returns-else-write-2 : goal.returns-else-write-2
 returns-else-write-2 c =

@@ -6,13 +6,13 @@ use Rattle.machine.specs.Came.{run_of}
 use Rattle.machine.proofs.Steps.{went_on, it_ended}
 use Rattle.machine.proofs.stepping.go.Goals as goal
 
-pub returns-in-Some : goal.returns-in-Some
-returns-in-Some c =
+pub returns-in-Break : goal.returns-in-Break
+returns-in-Break c =
     let now : Words = record { closed_pages = c.loop-done.closed; open_pages = c.loop-done.open } in
-    let after : Words = record { closed_pages = c.step-stepped.new.closed; open_pages = c.step-stepped.new.open } in
+    let after : Words = record { closed_pages = c.step.new.closed; open_pages = c.step.new.open } in
     let all = c.loop-done.invariant.0 in
-    let d = it_ended c.args.memory.now c.args.top c.args.steps c.loop-done.done c.args.chance (omega arith)
-    c.loop-done.registers.words now after c.step-stepped.result c.step-stepped.ensures c.in-Some.ends c.in-Some.is in
+    let d = it_ended c.args.memory.now c.args.top c.args.steps c.loop-done._done c.args.chance (omega arith)
+    c.loop-done.registers.words now after c.step.result c.step.ensures c.in-Break.ran c.in-Break.is in
     record {
       registers = d.0 ∙ sym (ap (λ x. x.registers) all);
       ends = d.1 ∙ sym (ap (λ x. by_cell x.ends) all);
@@ -22,18 +22,18 @@ returns-in-Some c =
 pub loop-done-preserved : goal.loop-done-preserved
 loop-done-preserved c =
     let now : Words = record { closed_pages = c.loop-done.closed; open_pages = c.loop-done.open } in
-    let after : Words = record { closed_pages = c.step-stepped.new.closed; open_pages = c.step-stepped.new.open } in
+    let after : Words = record { closed_pages = c.step.new.closed; open_pages = c.step.new.open } in
     let inv = c.loop-done.invariant in (
-      inv.0 ∙ went_on c.args.memory.now c.args.top c.args.steps c.loop-done.done c.args.chance (omega arith)
-          c.loop-done.registers.words now after c.step-stepped.result c.step-stepped.ensures c.in_default.is,
-      c.step-stepped.auto.closed ∙ inv.1,
-      c.step-stepped.auto.open ∙ inv.2,
+      inv.0 ∙ went_on c.args.memory.now c.args.top c.args.steps c.loop-done._done c.args.chance (omega arith)
+          c.loop-done.registers.words now after c.step.result c.step.ensures c.in-Continue.next c.in-Continue.is,
+      c.step.auto.closed ∙ inv.1,
+      c.step.auto.open ∙ inv.2,
     )
 
 pub returns : goal.returns
 unfolding steps
 returns c =
-    let none : c.args.steps - c.loop-done.done ≡ 0 = omega arith in
+    let none : c.args.steps - c.loop-done._done ≡ 0 = omega arith in
     let now : Words = record { closed_pages = c.loop-done.closed; open_pages = c.loop-done.open } in
     let all = c.loop-done.invariant.0
     ∙ ap (λ n. run_of c.args.memory.now c.args.top n c.args.chance c.loop-done.registers.words now) none in

@@ -1,7 +1,5 @@
 use Rattle.std.proofs.Common.{ℕ, List, sym, ap, ◌∙◌, ap₂}
-use Rattle.std.specs.Option.{option_map}
 use Rattle.model.specs.Processor.{word_number}
-use Rattle.calls.specs.Meaning.{call_of}
 use Rattle.machine.specs.Lent.{Words, slot_for}
 use Rattle.machine.specs.Came.{step_registers, step_ends, step_words}
 use Rattle.machine.proofs.Puts.{saves, refuses}
@@ -15,8 +13,8 @@ returns-then-store c =
     let e = saves c.args.registers.words c.args.closed.now c.args.open.now c.args.address (word_number c.args.address)
     c.args.value (slot_for m t c.args.address) (sym c.store.ensures.may ∙ c.if-store.true) in
     record {
-      registers = ap (λ x. x.words) c.goes.ensures.0 ∙ sym (ap step_registers e);
-      ends = ap (option_map call_of) c.goes.ensures.1 ∙ sym (ap step_ends e);
+      registers = sym (ap step_registers e);
+      ends = sym (ap step_ends e);
       words = ap₂ (λ x y. record { closed_pages = x; open_pages = y }) c.store.ensures.closed c.store.ensures.open
           ∙ sym (ap (step_words m t before) e);
     }

@@ -1,50 +1,41 @@
-use Rattle.std.proofs.Common.{ℕ, List, sym, refl, ap, ◌∙◌, subst}
-use Rattle.machine.specs.Instructions.{decoded, executed, fetched, made_up}
+use Rattle.std.proofs.Common.{◌≡◌, ℕ, ◌+◌, List, get_or, sym, refl, ap, ◌∙◌, subst}
+use Rattle.model.specs.Calls.{fault}
+use Rattle.model.specs.Processor.{Seen, seen, asks}
+use Rattle.machine.specs.Instructions.{decoded, with_register, low, executed, fetched, made_up}
 use Rattle.machine.specs.Lent.{Words, looked}
 use Rattle.machine.specs.Meaning.{seen_of}
 use Rattle.machine.specs.Came.{Comes}
-use Rattle.model.specs.Processor.{seen}
 use Rattle.machine.proofs.stepping.step.Goals as goal
+use Rattle.machine.proofs.stepping.step.Goals.{in_default-via-in-Some+else-seen, in_default-via-in_default}
 
-pub returns-in-Unseen : goal.returns-in-Unseen
+pub returns-in-Some : goal.returns-in-Some
 unfolding made_up
-returns-in-Unseen c =
-    let m : List ℕ = c.args.memory.now in
-    let cs : List ℕ = c.args.closed.now in
-    let os : List ℕ = c.args.open.now in
+returns-in-Some c =
+    let L : ℕ → Seen = looked c.args.memory.now c.args.top c.args.closed.now c.args.open.now in
     let rs : List ℕ = c.args.registers.words in
-    let w : Words = record { closed_pages = cs; open_pages = os } in
-    subst (λ s. Comes m c.args.top w w s c.faults.result)
-    (ap (λ x. fetched x rs (looked m c.args.top cs os) c.args.chance) (sym (ap seen_of c.in-Unseen.is) ∙ c.look.ensures))
-    (record { registers = ap (λ x. x.words) c.faults.ensures.0; ends = c.faults.ensures.1; words = refl })
-
-pub returns-then-not-run : goal.returns-then-not-run
-unfolding made_up
-returns-then-not-run c =
-    let m : List ℕ = c.args.memory.now in
-    let cs : List ℕ = c.args.closed.now in
-    let os : List ℕ = c.args.open.now in
-    let rs : List ℕ = c.args.registers.words in
-    let w : Words = record { closed_pages = cs; open_pages = os } in
-    subst (λ s. Comes m c.args.top w w s c.faults-then-not-run.result)
-    (ap (λ b. fetched (seen c.in-Word.write b c.in-Word.word) rs (looked m c.args.top cs os) c.args.chance)
-    (sym c.if-not-run.true)
-    ∙ ap (λ x. fetched x rs (looked m c.args.top cs os) c.args.chance) (sym (ap seen_of c.in-Word.is) ∙ c.look.ensures))
-    (record { registers = ap (λ x. x.words) c.faults-then-not-run.ensures.0; ends = c.faults-then-not-run.ensures.1; words = refl })
-
-pub returns-else-not-run : goal.returns-else-not-run
-unfolding made_up
-returns-else-not-run c =
-    let m : List ℕ = c.args.memory.now in
-    let cs : List ℕ = c.args.closed.now in
-    let os : List ℕ = c.args.open.now in
-    let rs : List ℕ = c.args.registers.words in
-    let w : Words = record { closed_pages = cs; open_pages = os } in
+    let w : Words = record { closed_pages = c.args.closed.now; open_pages = c.args.open.now } in
     let after : Words = record { closed_pages = c.execute.new.closed; open_pages = c.execute.new.open } in
-    subst (λ s. Comes m c.args.top w after s c.execute.result)
-    (ap (λ i. executed i c.put-next.result.words (looked m c.args.top cs os) c.args.chance) c.decode.ensures
-    ∙ ap (λ qs. executed (decoded c.in-Word.word) qs (looked m c.args.top cs os) c.args.chance) c.put-next.ensures
-    ∙ ap (λ b. fetched (seen c.in-Word.write b c.in-Word.word) rs (looked m c.args.top cs os) c.args.chance)
-    (sym c.if-not-run.false)
-    ∙ ap (λ x. fetched x rs (looked m c.args.top cs os) c.args.chance) (sym (ap seen_of c.in-Word.is) ∙ c.look.ensures))
+    subst (λ s. Comes c.args.memory.now c.args.top w after s c.execute.result)
+    (ap (λ i. executed i c.put-next.result.words L c.args.chance) c.from-instruction.ensures
+    ∙ ap (λ qs. executed (decoded c.in-Some.seen.word) qs L c.args.chance)
+    (c.put-next.ensures ∙ ap (λ a. with_register rs 15 (low (a + 4))) c.get-at.ensures)
+    ∙ ap (λ b. fetched (seen c.in-Some.seen.write b c.in-Some.seen.word) rs L c.args.chance) (sym c.if-seen.true)
+    ∙ ap (λ x. fetched x rs L c.args.chance) (sym (ap seen_of c.in-Some.is) ∙ c.look.ensures ∙ ap L c.get-at.ensures))
     c.execute.ensures
+
+pub returns-in_default : goal.returns-in_default
+unfolding made_up
+returns-in_default c =
+    let L : ℕ → Seen = looked c.args.memory.now c.args.top c.args.closed.now c.args.open.now in
+    let rs : List ℕ = c.args.registers.words in
+    let w : Words = record { closed_pages = c.args.closed.now; open_pages = c.args.open.now } in
+    let here = c.look.ensures ∙ ap L c.get-at.ensures in
+    let faulty : asks rs (fault 1) ≡ fetched (L (get_or rs 15 0)) rs L c.args.chance =
+    elim c.in_default.branch [
+      in_default-via-in-Some+else-seen x ↦
+          ap (λ b. fetched (seen x.in-Some.seen.write b x.in-Some.seen.word) rs L c.args.chance) (sym x.if-seen.false)
+          ∙ ap (λ z. fetched z rs L c.args.chance) (sym (ap seen_of x.in-Some.is) ∙ here)
+    | in_default-via-in_default x ↦ ap (λ z. fetched z rs L c.args.chance) (sym (ap seen_of x.in_default.is) ∙ here)
+    ] in
+    subst (λ s. Comes c.args.memory.now c.args.top w w s c.faults.result) faulty
+    (record { registers = ap (λ x. x.words) c.faults.ensures.0; ends = c.faults.ensures.1; words = refl })
