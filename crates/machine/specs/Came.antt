@@ -19,6 +19,8 @@ use Rattle.full_pages.specs.Flat.{flat}
 use Rattle.full_monitor.specs.Called.{Made}
 use Rattle.machine.specs.Instructions.{made_up, with_register, low}
 use Rattle.machine.specs.Lent.{Words, lent}
+use Rattle.machine.specs.Held.{words_of, Kept}
+use Rattle.machine.specs.declared.seeing.Lent.{Lent}
 use Rattle.machine.specs.declared.values.Ran.{Ran}
 
 -- the registers after a step, the call that it ended with, if it did, and the words
@@ -47,10 +49,11 @@ ended_with (Continue rs) = None
 ended_with (Break r) = Some r.ends
 
 -- It comes to that step.
-pub record Comes (m : List ℕ) (t : ℕ) (before after : Words) (s : Step) (r : ControlFlow Ran Registers) : Type 0 where
+pub record Comes (before after : Lent) (s : Step) (r : ControlFlow Ran Registers) : Type 0 where
   pub registers : (left r).words ≡ step_registers s
   pub ends : option_map call_of (ended_with r) ≡ step_ends s
-  pub words : after ≡ step_words m t before s
+  pub words : words_of after ≡ step_words before.memory.now before.top (words_of before) s
+  pub kept : Kept before after
 
 -- A run: so many steps of the made_up processor, over the lent words.
 abbrev pub run_of : List ℕ → ℕ → ℕ → ℕ → List ℕ → Words → Came Words

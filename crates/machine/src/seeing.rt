@@ -1,9 +1,10 @@
 // The lent words, by a cell's tables.
-ghost use Rattle.std.specs.Prelude.{◌≡◌, ◌*◌, ◌<◌, length, slice_index};
+ghost use Rattle.std.specs.Prelude.{◌≡◌};
 ghost use Rattle.model.specs.Pages.{writable};
 ghost use Rattle.model.specs.Processor.{word_number};
 ghost use Rattle.full_pages.specs.Meaning.{slot_of};
-ghost use Rattle.machine.specs.Lent.{slot_for, looked, closed_put, open_put, Fit};
+ghost use Rattle.machine.specs.Held.{slot_at, sees, Whole, Kept};
+ghost use Rattle.machine.specs.Lent.{closed_put, open_put};
 ghost use Rattle.machine.specs.Meaning.{seen_of};
 
 use crate::values::Seen;
@@ -19,24 +20,14 @@ const WORDS: usize = 1024;
 
 const PAGE_BYTES: u64 = 4096;
 
-// The slot of an address; one whose page is not there counts as having nothing.
-fn slot_for(memory: &[u64], top: u64, address: u32) -> Slot
-    requires { Fit memory.now top }
-    ensures { slot_of result ≡ slot_for memory.now top address }
-{
-    let address = u64::from(address);
-    let table = address / (SLOTS * PAGE_BYTES);
-    if table >= PLACES {
-        return Slot::Nothing;
-    }
-    let Some(table) = lookups::table_of(memory, top, table) else {
-        return Slot::Nothing;
-    };
-    match full_pages::slot_at(memory, table, address / PAGE_BYTES % SLOTS) {
-        Slot::Closed { page, .. } if page >= full_pages::pages(memory) => Slot::Nothing,
-        Slot::Opened { page, .. } if page >= full_pages::opens(memory) => Slot::Nothing,
-        slot => slot,
-    }
+// What is lent: the monitor's memory, a cell's top table in it, and the words of closed and of open pages. That it is whole is asked by each
+// method: with a model's invariant in its place, the caller of `run` would not learn which words are left in the slices.
+#[derive(Drop)]
+pub struct Lent<'a> {
+    pub memory: &'a [u64],
+    pub top: u64,
+    pub closed: &'a mut [u32],
+    pub open: &'a mut [u32],
 }
 
 // Which word of its page an address is that of.
@@ -46,57 +37,73 @@ fn word_number(address: u32) -> usize
     address as usize / 4 % WORDS
 }
 
-// What is seen at an address, if anything is.
-pub fn look(memory: &[u64], closed: &[u32], open: &[u32], top: u64, address: u32) -> Option<Seen>
-    requires fit { Fit memory.now top }
-    requires closed_len { (length closed.now ≡ slice_index memory.now 0 * 1024) × (length «open».now ≡ slice_index memory.now 1 * 1024) }
-    ensures { seen_of result ≡ looked memory.now top closed.now «open».now address }
-{
-    let word = word_number(address);
-    match slot_for(memory, top, address) {
-        Slot::Nothing => None,
-        Slot::Closed { page, write, run } => Some(Seen {
-            write,
-            run,
-            word: closed[page as usize * WORDS + word],
-        }),
-        Slot::Opened { page, write } => Some(Seen {
-            write,
-            run: false,
-            word: open[page as usize * WORDS + word],
-        }),
-    }
-}
-
-// Stores a word where the tables let it; says whether they do.
-pub fn store(
-    memory: &[u64],
-    closed: &mut [u32],
-    open: &mut [u32],
-    top: u64,
-    address: u32,
-    value: u32,
-) -> bool
-    requires fit { Fit memory.now top }
-    requires closed_len { (length closed.old ≡ slice_index memory.now 0 * 1024) × (length «open».old ≡ slice_index memory.now 1 * 1024) }
-    ensures may { result ≡ writable (slot_for memory.now top address) }
-    ensures closed { closed.new ≡ closed_put closed.old (word_number address) value (slot_for memory.now top address) }
-    ensures open { «open».new ≡ open_put «open».old (word_number address) value (slot_for memory.now top address) }
-{
-    let word = word_number(address);
-    match slot_for(memory, top, address) {
-        Slot::Nothing => false,
-        Slot::Closed { page, write, .. } => {
-            if write {
-                closed[page as usize * WORDS + word] = value;
-            }
-            write
+impl Lent<'_> {
+    // The slot of an address; one whose page is not there counts as having nothing.
+    fn slot_for(&self, address: u32) -> Slot
+        requires { Whole self.now }
+        ensures { slot_of result ≡ slot_at self.now address }
+    {
+        let memory = self.memory;
+        let address = u64::from(address);
+        let table = address / (SLOTS * PAGE_BYTES);
+        if table >= PLACES {
+            return Slot::Nothing;
         }
-        Slot::Opened { page, write } => {
-            if write {
-                open[page as usize * WORDS + word] = value;
+        let Some(table) = lookups::table_of(memory, self.top, table) else {
+            return Slot::Nothing;
+        };
+        match full_pages::slot_at(memory, table, address / PAGE_BYTES % SLOTS) {
+            Slot::Closed { page, .. } if page >= full_pages::pages(memory) => Slot::Nothing,
+            Slot::Opened { page, .. } if page >= full_pages::opens(memory) => Slot::Nothing,
+            slot => slot,
+        }
+    }
+
+    // What is seen at an address, if anything is.
+    pub fn look(&self, address: u32) -> Option<Seen>
+        requires { Whole self.now }
+        ensures { seen_of result ≡ sees self.now address }
+    {
+        let word = word_number(address);
+        match self.slot_for(address) {
+            Slot::Nothing => None,
+            Slot::Closed { page, write, run } => Some(Seen {
+                write,
+                run,
+                word: self.closed[page as usize * WORDS + word],
+            }),
+            Slot::Opened { page, write } => Some(Seen {
+                write,
+                run: false,
+                word: self.open[page as usize * WORDS + word],
+            }),
+        }
+    }
+
+    // Stores a word where the tables let it; says whether they do.
+    #[tactic(auto, unfolding(model::specs::Pages::writable))]
+    pub fn store(&mut self, address: u32, value: u32) -> bool
+        requires { Whole self.old }
+        ensures may { result ≡ writable (slot_at self.old address) }
+        ensures closed { self.new.closed.now ≡ closed_put self.old.closed.now (word_number address) value (slot_at self.old address) }
+        ensures open { self.new.«open».now ≡ open_put self.old.«open».now (word_number address) value (slot_at self.old address) }
+        ensures kept { Kept self.old self.new }
+    {
+        let word = word_number(address);
+        match self.slot_for(address) {
+            Slot::Nothing => false,
+            Slot::Closed { page, write, .. } => {
+                if write {
+                    self.closed[page as usize * WORDS + word] = value;
+                }
+                write
             }
-            write
+            Slot::Opened { page, write } => {
+                if write {
+                    self.open[page as usize * WORDS + word] = value;
+                }
+                write
+            }
         }
     }
 }

@@ -4,12 +4,13 @@ ghost use Rattle.std.specs.Option.{option_map};
 ghost use Rattle.std.specs.Ordering.{ordering_index};
 ghost use Rattle.model.specs.Calls.{by_cell, fault};
 ghost use Rattle.calls.specs.Meaning.{call_of};
-ghost use Rattle.machine.specs.Lent.{Fit, looked, Words};
+ghost use Rattle.machine.specs.Held.{words_of, sees, Whole, Kept};
+ghost use Rattle.machine.specs.Lent.{Fit, Words};
 ghost use Rattle.machine.specs.Came.{left, ended_with, Comes, Runs, Refines};
 ghost use Rattle.machine.specs.Faults.{kind_number};
 ghost use Rattle.machine.specs.Instructions.{register, with_register, order, holds, asked, jumped, loaded, stored, executed, made_up};
 
-use crate::seeing::{look, store};
+use crate::seeing::Lent;
 use crate::values::{FaultKind, Instruction, Ran, Seen, Stepped, When};
 use calls::Call;
 use fields::{Numbers, Registers};
@@ -121,44 +122,22 @@ fn faults(registers: Registers, kind: FaultKind) -> Stepped
 }
 
 // A word is loaded into a register.
-fn load(
-    memory: &[u64],
-    closed: &[u32],
-    open: &[u32],
-    top: u64,
-    registers: Registers,
-    to: u32,
-    address: u32,
-) -> Stepped
-    requires fit { Fit memory.now top }
-    requires closed_len { (length closed.now ≡ slice_index memory.now 0 * 1024) × (length «open».now ≡ slice_index memory.now 1 * 1024) }
-    ensures { Comes memory.now top (record { closed_pages = closed.now; open_pages = «open».now })
-        (record { closed_pages = closed.now; open_pages = «open».now })
-        (loaded registers.words to (looked memory.now top closed.now «open».now address)) result }
+fn load(lent: &mut Lent<'_>, registers: Registers, to: u32, address: u32) -> Stepped
+    requires { Whole lent.old }
+    ensures { Comes lent.old lent.new (loaded registers.words to (sees lent.old address)) result }
 {
-    match look(memory, closed, open, top, address) {
+    match lent.look(address) {
         Some(seen) => Continue(put(registers, to, seen.word)),
         None => faults(registers, FaultKind::NotSeen),
     }
 }
 
 // A register is stored as a word.
-fn save(
-    memory: &[u64],
-    closed: &mut [u32],
-    open: &mut [u32],
-    top: u64,
-    registers: Registers,
-    address: u32,
-    value: u32,
-) -> Stepped
-    requires fit { Fit memory.now top }
-    requires closed_len { (length closed.old ≡ slice_index memory.now 0 * 1024) × (length «open».old ≡ slice_index memory.now 1 * 1024) }
-    ensures { Comes memory.now top (record { closed_pages = closed.old; open_pages = «open».old })
-        (record { closed_pages = closed.new; open_pages = «open».new })
-        (stored registers.words address value (looked memory.now top closed.old «open».old address)) result }
+fn save(lent: &mut Lent<'_>, registers: Registers, address: u32, value: u32) -> Stepped
+    requires { Whole lent.old }
+    ensures { Comes lent.old lent.new (stored registers.words address value (sees lent.old address)) result }
 {
-    if store(memory, closed, open, top, address, value) {
+    if lent.store(address, value) {
         Continue(registers)
     } else {
         faults(registers, FaultKind::NotWritten)
@@ -167,19 +146,13 @@ fn save(
 
 // What an instruction does.
 fn execute(
+    lent: &mut Lent<'_>,
     instruction: Instruction,
-    memory: &[u64],
-    closed: &mut [u32],
-    open: &mut [u32],
-    top: u64,
     registers: Registers,
     chance: u32,
 ) -> Stepped
-    requires fit { Fit memory.now top }
-    requires closed_len { (length closed.old ≡ slice_index memory.now 0 * 1024) × (length «open».old ≡ slice_index memory.now 1 * 1024) }
-    ensures { Comes memory.now top (record { closed_pages = closed.old; open_pages = «open».old })
-        (record { closed_pages = closed.new; open_pages = «open».new })
-        (executed instruction registers.words (looked memory.now top closed.old «open».old) chance) result }
+    requires { Whole lent.old }
+    ensures { Comes lent.old lent.new (executed instruction registers.words (sees lent.old) chance) result }
 {
     match instruction {
         Instruction::Unknown => faults(registers, FaultKind::NoInstruction),
@@ -201,12 +174,12 @@ fn execute(
         }
         Instruction::Load { to, base, words } => {
             let address = get(registers, base).wrapping_add(words.wrapping_mul(4));
-            load(memory, closed, open, top, registers, to, address)
+            load(lent, registers, to, address)
         }
         Instruction::Store { from, base, words } => {
             let address = get(registers, base).wrapping_add(words.wrapping_mul(4));
             let value = get(registers, from);
-            save(memory, closed, open, top, registers, address, value)
+            save(lent, registers, address, value)
         }
         Instruction::Compare { left, right } => {
             let mut words = registers.words;
@@ -228,49 +201,30 @@ fn execute(
 }
 
 // One step: the word where it is, if that may be run, is an instruction.
-fn step(
-    memory: &[u64],
-    closed: &mut [u32],
-    open: &mut [u32],
-    top: u64,
-    registers: Registers,
-    chance: u32,
-) -> Stepped
-    requires fit { Fit memory.now top }
-    requires closed_len { (length closed.old ≡ slice_index memory.now 0 * 1024) × (length «open».old ≡ slice_index memory.now 1 * 1024) }
-    ensures { Comes memory.now top (record { closed_pages = closed.old; open_pages = «open».old })
-        (record { closed_pages = closed.new; open_pages = «open».new })
-        (made_up registers.words (looked memory.now top closed.old «open».old) chance) result }
+fn step(lent: &mut Lent<'_>, registers: Registers, chance: u32) -> Stepped
+    requires { Whole lent.old }
+    ensures { Comes lent.old lent.new (made_up registers.words (sees lent.old) chance) result }
 {
     let at = get(registers, NEXT);
-    match look(memory, closed, open, top, at) {
+    match lent.look(at) {
         Some(seen) if seen.run => {
             let instruction = Instruction::from(seen.word);
             let next = put(registers, NEXT, at.wrapping_add(4));
-            execute(instruction, memory, closed, open, top, next, chance)
+            execute(lent, instruction, next, chance)
         }
         _ => faults(registers, FaultKind::NotRun),
     }
 }
 
 // So many steps at most, after which it is interrupted.
-fn go(
-    memory: &[u64],
-    closed: &mut [u32],
-    open: &mut [u32],
-    top: u64,
-    registers: Registers,
-    steps: u32,
-    chance: u32,
-) -> Ran
-    requires fit { Fit memory.now top }
-    requires closed_len { (length closed.old ≡ slice_index memory.now 0 * 1024) × (length «open».old ≡ slice_index memory.now 1 * 1024) }
-    ensures { Runs memory.now top (record { closed_pages = closed.old; open_pages = «open».old })
-        (record { closed_pages = closed.new; open_pages = «open».new }) steps chance registers.words result }
+fn go(lent: &mut Lent<'_>, registers: Registers, steps: u32, chance: u32) -> Ran
+    requires { Whole lent.old }
+    ensures runs { Runs lent.old.memory.now lent.old.top (words_of lent.old) (words_of lent.new) steps chance registers.words result }
+    ensures kept { Kept lent.old lent.new }
 {
     let mut registers = registers;
     for _done in 0..steps {
-        match step(memory, closed, open, top, registers, chance) {
+        match step(lent, registers, chance) {
             Continue(next) => registers = next,
             Break(ran) => return ran,
         }
@@ -305,5 +259,11 @@ pub fn run(
     }) (record { closed_pages = closed.new; open_pages = «open».new }) steps chance registers.words
         result }
 {
-    go(memory, closed, open, top, registers, steps, chance)
+    let mut lent = Lent {
+        memory,
+        top,
+        closed,
+        open,
+    };
+    go(&mut lent, registers, steps, chance)
 }
