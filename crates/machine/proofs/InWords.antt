@@ -1,7 +1,7 @@
 -- What the processor does on the lent words is what it does on the pages in place.
-use Rattle.std.proofs.Common.{◌≡◌, ℕ, zero, suc, ◌+◌, ◌*◌, ◌<◌, Bool, true, false, cond, ltb, List, [], ◌∷◌, length, get_or, set, Some, None, Option, sym, refl, ap, ◌∙◌, subst, arith, length-set, ltb-false, ltb-true, lt-ltb}
+use Rattle.std.proofs.Common.{◌≡◌, ℕ, ◌+◌, ◌*◌, ◌<◌, Bool, true, false, cond, ltb, List, [], length, get_or, set, Some, None, Option, sym, refl, ap, ◌∙◌, subst, arith, length-set, ltb-false, ltb-true, lt-ltb}
 use mathlib.Core.Path.{fun_ext}
-use Rattle.std.proofs.ByRecursion.{All-get_or}
+use Rattle.std.proofs.ByRecursion.{All-get_or, All-set}
 use Rattle.model.specs.Pages as model
 use Rattle.model.specs.Pages.{Slot, nothing, closed, opened, cell, table_at, slot_in, slots_in}
 use Rattle.model.specs.State.{Limits, State, entry}
@@ -18,11 +18,6 @@ use Rattle.lookups.specs.Lookups as look
 use Rattle.lookups.proofs.Right.{Known, there_right, open_right, table_right, its_table, no_table, slot_right}
 use Rattle.machine.specs.Instructions.{made_up}
 use Rattle.machine.specs.Lent.{if_there, slot_by, slot_for, seen_by, closed_put, open_put, Words, lent}
-
-wide_set : (xs : List (List ℕ)) (i : ℕ) (ws : List ℕ) → Wide 1024 xs → length ws ≡ 1024 → Wide 1024 (set xs i ws)
-wide_set [] i ws h g = tt
-wide_set (x ∷ xs) zero ws h g = (g, h.1)
-wide_set (x ∷ xs) (suc i) ws h g = (h.0, wide_set xs i ws h.1 g)
 
 module _ (l : Limits) (s : State) (k : Known l s) (c : ℕ) (y : model.Cell) (e : entry s c ≡ cell y) (live : Live s c) where
   -- a slot of a table names a page that is there
@@ -127,8 +122,8 @@ module _ (l : Limits) (s : State) (k : Known l s) (c : ℕ) (y : model.Cell) (e 
         open_pages = h.open_pages;
         contents_long = length-set t.contents p _ ∙ h.contents_long;
         opens_long = h.opens_long;
-        contents_wide = wide_set t.contents p _ h.contents_wide
-            (length-set (get_or t.contents p []) n v ∙ All-get_or (λ x. length x ≡ 1024) t.contents p [] low h.contents_wide);
+        contents_wide = All-set (λ x. length x ≡ 1024) t.contents p _
+            (length-set (get_or t.contents p []) n v ∙ All-get_or (λ x. length x ≡ 1024) t.contents p [] low h.contents_wide) h.contents_wide;
         opens_wide = h.opens_wide;
       }
   put_right w t n v (opened o false) h g f = h
@@ -142,8 +137,8 @@ module _ (l : Limits) (s : State) (k : Known l s) (c : ℕ) (y : model.Cell) (e 
         contents_long = h.contents_long;
         opens_long = length-set t.open_pages o _ ∙ h.opens_long;
         contents_wide = h.contents_wide;
-        opens_wide = wide_set t.open_pages o _ h.opens_wide
-            (length-set (get_or t.open_pages o []) n v ∙ All-get_or (λ x. length x ≡ 1024) t.open_pages o [] low h.opens_wide);
+        opens_wide = All-set (λ x. length x ≡ 1024) t.open_pages o _
+            (length-set (get_or t.open_pages o []) n v ∙ All-get_or (λ x. length x ≡ 1024) t.open_pages o [] low h.opens_wide) h.opens_wide;
       }
 
   stores_same : (w : Words) (t : State) (a v : ℕ) → Has w t → Has ((lent (encode l s) y.top).store w a v) ((in_place c).store t a v)

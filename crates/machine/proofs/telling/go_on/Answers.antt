@@ -1,33 +1,47 @@
-use Rattle.std.proofs.Common.{ℕ, ◌+◌, ◌-◌, List, take, drop, sym, refl, ap, ◌∙◌, arith}
-use Rattle.std.proofs.lemmas.Nat.{and_mask}
+use Rattle.std.proofs.Common.{ℕ, ◌-◌, List, take, inl, inr, sym, ap, ◌∙◌, ap₂, arith}
+use Rattle.std.specs.Iterator.Adapters.{zip_first, zip_second}
 use Rattle.fields.specs.Shapes.{numbers_of}
-use Rattle.machine.specs.Instructions.{with_register}
+use Rattle.machine.specs.Instructions.{with_register, low}
 use Rattle.machine.specs.Came.{told_on}
-use Rattle.machine.proofs.Told.{told_more, told_none, told_all}
+use Rattle.machine.proofs.Told.{told_next, told_none, told_all}
 use Rattle.machine.proofs.telling.go_on.Goals as goal
 
-pub loop-i-init : goal.loop-i-init
-loop-i-init c = refl
-
-pub returns-in_default : goal.returns-in_default
+pub loop-index-init : goal.loop-index-init
 unfolding told_on
-returns-in_default c =
+loop-index-init c =
     let ns : List ℕ = numbers_of c.args.numbers in
-    let first = c.put-registers.ensures ∙ ap (with_register c.args.registers.words 0) (and_mask c.args.error 32) in
-    sym (c.loop-i.invariant ∙ told_none ns c.loop-i.registers.words c.loop-i.i (sym c.at.ensures ∙ c.in_default.is))
-    ∙ ap (told_on 1 (take 8 ns)) first
+    let made = c.into_iter-index-iterator.ensures.into_iter_gives in
+    let first = ap zip_first made ∙ c.zip-index-items.ensures.first in
+    let second = ap zip_second made ∙ c.zip-index-items.ensures.second in
+    let starts = ap (λ r. r.start) first in (
+      ap (λ r. r.«end») first,
+      omega (arith, starts),
+      omega (arith, starts),
+      ap (told_on 1 (take 8 ns)) (sym (c.put-registers.ensures ∙ ap (with_register c.args.registers.words 0) c.low.ensures))
+          ∙ ap₂ (λ i ms. told_on i (take (9 - i) ms) c.put-registers.result.words) (sym starts) (sym second),
+    )
 
-pub loop-i-preserved : goal.loop-i-preserved
-loop-i-preserved c =
-    let ns : List ℕ = numbers_of c.args.numbers in
-    let i : ℕ = c.loop-i.i in
-    c.loop-i.invariant ∙ told_more ns c.loop-i.registers.words i c.in-Some.number (omega arith) (sym c.at.ensures ∙ c.in-Some.is)
-    ∙ ap (told_on (i + 1 + 1) (take (8 - (i + 1)) (drop (i + 1) ns)))
-    (sym (c.put-registers-in-loop-i.ensures ∙ ap (with_register c.loop-i.registers.words (i + 1)) (and_mask c.in-Some.number 32)))
+pub loop-index-preserved : goal.loop-index-preserved
+loop-index-preserved c =
+    let inv = c.loop-index.invariant in
+    let step = c.in-Some.ensures.steps in
+    let rs : List ℕ = c.loop-index.registers.words in
+    let rest : List ℕ = zip_second c.next.new.self in (
+      step.0.0 ∙ inv.0,
+      omega (arith, inv.1, step.0.1.2),
+      omega (arith, inv.0, step.0.1.0, step.0.1.2),
+      inv.3 ∙ told_next _ rest rs (zip_first c.loop-index.index-iterator).start c.in-Some.number (omega (arith, inv.0, step.0.1.0)) step.1
+          ∙ ap (λ i. told_on i (take (9 - i) rest) (with_register rs (zip_first c.loop-index.index-iterator).start (low c.in-Some.number)))
+          (sym step.0.1.2)
+          ∙ ap (told_on _ _)
+          (sym (c.put-registers-in-loop-index.ensures ∙ ap₂ (with_register rs) step.0.1.1 c.low-in-loop-index.ensures)),
+    )
 
 pub returns : goal.returns
-unfolding told_on
 returns c =
-    let ns : List ℕ = numbers_of c.args.numbers in
-    let first = c.put-registers.ensures ∙ ap (with_register c.args.registers.words 0) (and_mask c.args.error 32) in
-    sym (c.loop-i.invariant ∙ told_all ns c.loop-i.registers.words c.loop-i.i (omega arith)) ∙ ap (told_on 1 (take 8 ns)) first
+    let inv = c.loop-index.invariant in
+    let rs : List ℕ = c.loop-index.registers.words in
+    sym (inv.3 ∙ elim c.in-None.ensures.steps [
+      | inl spent ↦ told_all _ rs _ (omega (arith, inv.0, spent.1.1.0))
+      | inr spent ↦ told_none _ rs _ spent.1.0
+    ])

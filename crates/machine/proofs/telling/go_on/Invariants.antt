@@ -1,9 +1,12 @@
-use Rattle.std.proofs.Common.{◌≡◌, ◌+◌, ◌-◌, take, drop}
+use Rattle.std.proofs.Common.{◌≡◌, ◌-◌, ◌≤◌, take}
+use Rattle.std.specs.Iterator.Adapters.{zip_first, zip_second}
 use Rattle.fields.specs.Shapes.{numbers_of}
-use Rattle.machine.specs.Came.{told_on}
+use Rattle.machine.specs.Came.{told_on, goes_on}
 use Rattle.machine.proofs.telling.go_on.Given as goal
 
-abbrev pub invariant-loop-i : goal.invariant-loop-i
-invariant-loop-i l =
-    told_on 1 (take 8 (numbers_of l.numbers)) l.initial.registers.words
-    ≡ told_on (l.i + 1) (take (8 - l.i) (drop l.i (numbers_of l.numbers))) l.registers.words
+abbrev pub invariant-loop-index : goal.invariant-loop-index
+invariant-loop-index l =
+    let at = zip_first l.index-iterator in
+    let rest = zip_second l.index-iterator in
+    (at.«end» ≡ 9) × (1 ≤ at.start) × (at.start ≤ 9)
+    × (goes_on l.fn.registers.words l.fn.error (numbers_of l.fn.numbers) ≡ told_on at.start (take (9 - at.start) rest) l.registers.words)
