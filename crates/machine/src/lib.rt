@@ -7,6 +7,7 @@ mod stepping;
 mod telling;
 mod values;
 
+pub use decoding::UnknownWhen;
 pub use stepping::run;
 pub use telling::{go_on, machine_is_good};
 pub use values::{Instruction, Ran, When};

@@ -11,7 +11,7 @@ ghost use Rattle.machine.specs.Faults.{kind_number};
 ghost use Rattle.machine.specs.Instructions.{register, with_register, order, holds, asked, jumped, loaded, stored, executed, made_up};
 
 use crate::seeing::Lent;
-use crate::values::{FaultKind, Instruction, Ran, Seen, Stepped, When};
+use crate::values::{FaultKind, Instruction, Ran, Stepped, When};
 use calls::Call;
 use fields::{Numbers, Registers};
 use std::cmp::Ordering;
@@ -49,13 +49,14 @@ fn kept(ordering: Ordering) -> u32
     }
 }
 
+// What register 16 is after a comparison.
 fn compare(left: u32, right: u32) -> u32
     ensures { result ≡ order left right }
 {
     kept(left.cmp(&right))
 }
 
-// A thread goes on with any words, so register 16 may hold a number that no comparison comes to.
+// A thread goes on with any words, so register 16 may hold a number that no comparison comes to: it is no Ordering.
 fn taken(when: When, number: u32) -> bool
     ensures { result ≡ holds when number }
 {
@@ -80,28 +81,26 @@ fn jumped(registers: Registers, words: u32) -> Registers
 fn ask(call: u32, registers: Registers, chance: u32) -> Call<'static>
     ensures { call_of result ≡ by_cell (asked call registers.words chance) }
 {
-    let first = registers.words[0];
+    let first = u64::from(registers.words[0]);
     let second = registers.words[1];
     match call {
-        20 => Call::Leave {
-            number: first as u64,
-        },
-        22 => Call::Fault { kind: first as u64 },
+        20 => Call::Leave { number: first },
+        22 => Call::Fault { kind: first },
         23 => Call::Grow {
-            page: first as u64,
+            page: first,
             place: full_pages::place_from(second),
         },
         24 => Call::Shrink {
-            page: first as u64,
+            page: first,
             place: full_pages::place_from(second),
         },
         25 => Call::Extend {
-            page: first as u64,
-            index: second as u64,
+            page: first,
+            index: u64::from(second),
         },
         26 => Call::Who,
         27 => Call::Draw {
-            number: chance as u64,
+            number: u64::from(chance),
         },
         _ => Call::Fault {
             kind: FaultKind::NoCall.number(),
@@ -109,7 +108,7 @@ fn ask(call: u32, registers: Registers, chance: u32) -> Call<'static>
     }
 }
 
-// It ends with a fault.
+// A step that ends with a fault.
 fn faults(registers: Registers, kind: FaultKind) -> Stepped
     ensures { (left result ≡ registers) × (option_map call_of (ended_with result) ≡ Some (by_cell (fault (kind_number kind)))) }
 {
@@ -122,9 +121,9 @@ fn faults(registers: Registers, kind: FaultKind) -> Stepped
 }
 
 // A word is loaded into a register.
-fn load(lent: &mut Lent<'_>, registers: Registers, to: u32, address: u32) -> Stepped
-    requires { Whole lent.old }
-    ensures { Comes lent.old lent.new (loaded registers.words to (sees lent.old address)) result }
+fn load(lent: &Lent<'_>, registers: Registers, to: u32, address: u32) -> Stepped
+    requires { Whole lent.now }
+    ensures { Comes lent.now lent.now (loaded registers.words to (sees lent.now address)) result }
 {
     match lent.look(address) {
         Some(seen) => Continue(put(registers, to, seen.word)),
@@ -200,7 +199,8 @@ fn execute(
     }
 }
 
-// One step: the word where it is, if that may be run, is an instruction.
+// One step: the word where it is, if that may be run, is an instruction. Registers and chance are passed by themselves, as the
+// definitions' processor has them: a struct of the two would be made anew at each step.
 fn step(lent: &mut Lent<'_>, registers: Registers, chance: u32) -> Stepped
     requires { Whole lent.old }
     ensures { Comes lent.old lent.new (made_up registers.words (sees lent.old) chance) result }

@@ -1,7 +1,7 @@
 // How a thread goes on that was told something.
-ghost use Rattle.std.specs.Prelude.{◌≡◌, ◌∷◌};
+ghost use Rattle.std.specs.Prelude.{◌≡◌};
 ghost use Rattle.fields.specs.Shapes.{numbers_of};
-ghost use Rattle.machine.specs.Came.{told_on, goes_on};
+ghost use Rattle.machine.specs.Came.{goes_on};
 ghost use Rattle.machine.specs.Instructions.{low};
 ghost use Rattle.machine.specs.Promises.{GoodEverywhere};
 

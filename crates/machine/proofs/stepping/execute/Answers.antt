@@ -11,7 +11,7 @@ wraps g w = omega arith
 pub returns-in-Load : goal.returns-in-Load
 returns-in-Load c =
     let rs = c.args.registers.words in
-    subst (λ s. Comes c.args.lent.now c.load.new.lent s c.load.result)
+    subst (λ s. Comes c.args.lent.now c.args.lent.now s c.load.result)
     (ap (λ a. loaded rs c.in-Load.to (sees c.args.lent.now a))
     (wraps c.get-in-Load.result c.in-Load.words ∙ ap (λ g. low (g + 4 * c.in-Load.words)) c.get-in-Load.ensures)
     ∙ sym (ap (λ i. executed i rs (sees c.args.lent.now) c.args.chance) c.in-Load.is))
