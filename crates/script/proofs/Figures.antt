@@ -1,5 +1,5 @@
 -- How digits are read one by one.
-use Rattle.std.proofs.Common.{◌≡◌, ℕ, ◌+◌, ◌-◌, ◌*◌, ◌^◌, ◌<◌, ◌≤◌, true, ◌&&◌, eqb, ltb, leb, List, [], ◌∷◌, length, get_or, drop, Some, None, decimal, Option, sym, refl, ap, ◌∙◌, ⊎_elim, arith, rules, ltb-true, le-ltb, lt-ltb, eq-eqb, ne_eqb, eqb-true, le-leb}
+use Rattle.std.proofs.Common.{◌≡◌, ℕ, ◌+◌, ◌-◌, ◌*◌, ◌^◌, ◌<◌, ◌≤◌, true, ◌&&◌, eqb, ltb, leb, List, [], ◌∷◌, length, get_or, drop, Some, None, decimal, Option, sym, refl, ap, ◌∙◌, ⊎_elim, subst, arith, rules, ltb-true, le-ltb, lt-ltb, eq-eqb, ne_eqb, eqb-true, le-leb}
 use borrow.Author.Tests.{lt-leb, eqb-false}
 use Rattle.std.specs.Str.{all_ascii_digits}
 use Rattle.std.proofs.lemmas.Str.Parse.{IsNumeralModel, numerals_by_fold}
@@ -41,22 +41,27 @@ unfolding number_of
 number_none [] h = refl
 number_none (c ∷ cs) h = absurd (omega arith)
 
-pub number_zero : (w : List ℕ) → length w ≡ 1 → get_or w 0 0 ≡ 48 → number_of w ≡ Some 0
-unfolding number_of
-number_zero [] h e = absurd (omega arith)
-number_zero (c ∷ []) h e = rw (eq-eqb c 48 e) refl
-number_zero (c ∷ (d ∷ cs)) h e = absurd (omega arith)
-
 pub number_leading : (w : List ℕ) → 1 < length w → get_or w 0 0 ≡ 48 → number_of w ≡ None
 unfolding number_of
 number_leading [] h e = absurd (omega arith)
 number_leading (c ∷ []) h e = absurd (omega arith)
 number_leading (c ∷ (d ∷ cs)) h e = rw (eq-eqb c 48 e) refl
 
-pub number_digits : (w : List ℕ) → 0 < length w → (get_or w 0 0 ≡ 48 → ⊥) → number_of w ≡ digits_on 0 w
+zero_back : number_of (48 ∷ []) ≡ Some 0
+unfolding number_of
+zero_back = refl
+
+zero_digit : (c : ℕ) → number_of (c ∷ []) ≡ digits_on 0 (c ∷ [])
+unfolding number_of
+zero_digit c = ⊎_elim (λ e. let P : ℕ → Type 0 = λ d. number_of (d ∷ []) ≡ digits_on 0 (d ∷ []) in subst P (sym e) refl)
+    (λ n. rw (ne_eqb c 48 n) refl)
+    (cases_eq c 48)
+
+pub number_digits : (w : List ℕ) → 0 < length w → (1 < length w → get_or w 0 0 ≡ 48 → ⊥) → number_of w ≡ digits_on 0 w
 unfolding number_of
 number_digits [] h e = absurd (omega arith)
-number_digits (c ∷ cs) h e = rw (ne_eqb c 48 e) refl
+number_digits (c ∷ []) h e = zero_digit c
+number_digits (c ∷ (d ∷ cs)) h e = rw (ne_eqb c 48 (e (omega arith))) refl
 
 -- the same of a whole word, in the words of the library
 abbrev read_on : ℕ → List ℕ → ℕ
@@ -92,7 +97,7 @@ digits_only n (c ∷ cs) m s e =
 pub numbers_back : (n : ℕ) → n < 2 ^ 64 → number_of (decimal n) ≡ Some n
 numbers_back n h =
     ⊎_elim
-    (λ z. ap number_of (ap decimal z ∙ decimal_digit 0 (omega arith)) ∙ number_zero (48 ∷ []) refl refl ∙ ap Some (sym z))
+    (λ z. ap number_of (ap decimal z ∙ decimal_digit 0 (omega arith)) ∙ zero_back ∙ ap Some (sym z))
     (λ p.
     let first = first_decimal n (omega arith) h in
     number_digits (decimal n) (decimal_nonempty n h) (λ e. omega arith)

@@ -1,5 +1,5 @@
 -- How numbers are printed one by one, and how many words of a page are.
-use Rattle.std.proofs.Common.{◌≡◌, ℕ, ◌+◌, ◌-◌, ◌<◌, ◌≤◌, List, [], ◌∷◌, ◌++◌, length, get_or, take, IfOk, Some, None, Ok, Err, codes, decimal, Result, sym, refl, ap, ◌∙◌, append_assoc, append-nil, arith, ne_eqb}
+use Rattle.std.proofs.Common.{◌≡◌, ℕ, zero, suc, ◌+◌, ◌-◌, ◌<◌, ◌≤◌, List, [], ◌∷◌, ◌++◌, length, get_or, take, IfOk, Some, None, Ok, Err, codes, decimal, Result, sym, refl, ap, ◌∙◌, append_assoc, append-nil, arith, length-take, ne_eqb}
 use Rattle.std.specs.List.{slice_get}
 use Rattle.std.proofs.lemmas.List.{take_more}
 use Rattle.std.proofs.lemmas.Option.{slice_get-get_or}
@@ -28,31 +28,29 @@ printed_next was is later ns i n h e so_far f =
 pub nth_missing : (ns : List ℕ) (i : ℕ) → i < length ns → None ≡ slice_get ns i → ⊥
 nth_missing ns i h e = let s = slice_get-get_or ns i 0 h in let z : ◌≡◌ {A = ℕ} 0 1 = cc in omega arith
 
--- a zero at the end goes, and any other word stays
-trimmed_zero : (ws : List ℕ) → trimmed (ws ++ 0 ∷ []) ≡ trimmed ws
-trimmed_zero [] = refl
-trimmed_zero (w ∷ ws) = ap (before_words w) (trimmed_zero ws)
+-- a word in front of others, of which it or one more is not 0
+before_some : (w : ℕ) (ws : List ℕ) → (length ws ≡ 0 → w ≡ 0 → ⊥) → before_words w ws ≡ w ∷ ws
+before_some w [] h = rw (ne_eqb w 0 (h refl)) refl
+before_some w (v ∷ ws) h = refl
 
-before_some : (w : ℕ) (ws : List ℕ) (v : ℕ) → before_words w (ws ++ v ∷ []) ≡ w ∷ (ws ++ v ∷ [])
-before_some w [] v = refl
-before_some w (x ∷ ws) v = refl
-
-trimmed_last : (ws : List ℕ) (w : ℕ) → (w ≡ 0 → ⊥) → trimmed (ws ++ w ∷ []) ≡ ws ++ w ∷ []
-trimmed_last [] w h = rw (ne_eqb w 0 h) refl
-trimmed_last (v ∷ ws) w h = ap (before_words v) (trimmed_last ws w h) ∙ before_some v ws w
-
-split_last : (ws : List ℕ) (n : ℕ) → 0 < n → n ≤ length ws → take n ws ≡ take (n - 1) ws ++ get_or ws (n - 1) 0 ∷ []
-split_last ws n p h = let e : n - 1 + 1 ≡ n = omega arith in ap (λ k. take k ws) (sym e) ∙ take_more ws (n - 1) 0 (omega arith)
-
-pub trim_more : (ws : List ℕ) (n : ℕ) → 0 < n → n ≤ length ws → get_or ws (n - 1) 0 ≡ 0 → trimmed (take n ws) ≡ trimmed ws →
-    trimmed (take (n - 1) ws) ≡ trimmed ws
-trim_more ws n p h z e =
-    sym (trimmed_zero (take (n - 1) ws)) ∙ ap trimmed (ap (λ w. take (n - 1) ws ++ w ∷ []) (sym z) ∙ sym (split_last ws n p h)) ∙ e
-
-pub trim_end : (ws : List ℕ) (n : ℕ) → 0 < n → n ≤ length ws → (get_or ws (n - 1) 0 ≡ 0 → ⊥) → trimmed (take n ws) ≡ trimmed ws →
-    take n ws ≡ trimmed ws
-trim_end ws n p h z e =
-    split_last ws n p h ∙ sym (trimmed_last (take (n - 1) ws) (get_or ws (n - 1) 0) z) ∙ ap trimmed (sym (split_last ws n p h)) ∙ e
+-- the words up to the last that is not 0
+pub trimmed_at : (ws : List ℕ) (n : ℕ) → n ≤ length ws → ((k : ℕ) → n ≤ k → k < length ws → get_or ws k 0 ≡ 0) →
+    (0 < n → get_or ws (n - 1) 0 ≡ 0 → ⊥) → take n ws ≡ trimmed ws
+trimmed_at [] zero within zeros last = refl
+trimmed_at [] (suc n) within zeros last = absurd (omega arith)
+trimmed_at (w ∷ ws) zero within zeros last =
+    let none = trimmed_at ws zero (omega arith) (λ k h l. zeros (suc k) (omega arith) (omega arith)) (λ h. absurd (omega arith)) in
+    let zero_first : w ≡ 0 = zeros 0 (omega arith) (omega arith) in
+    ap (λ v. before_words v []) (sym zero_first) ∙ ap (before_words w) none
+trimmed_at (w ∷ ws) (suc zero) within zeros last =
+    let none = trimmed_at ws zero (omega arith) (λ k h l. zeros (suc k) (omega arith) (omega arith)) (λ h. absurd (omega arith)) in
+    sym (before_some w [] (λ e h. last (omega arith) h)) ∙ ap (before_words w) none
+trimmed_at (w ∷ ws) (suc (suc n)) within zeros last =
+    let at : suc (suc n) - 1 ≡ suc (suc n - 1) = omega arith in
+    let final : get_or ws (suc n - 1) 0 ≡ 0 → ⊥ = λ e. last (omega arith) (ap (λ k. get_or (w ∷ ws) k 0) at ∙ e) in
+    let more = trimmed_at ws (suc n) (omega arith) (λ k h l. zeros (suc k) (omega arith) (omega arith)) (λ h. final) in
+    let long : length (take (suc n) ws) ≡ 0 → ⊥ = λ e. omega (arith, length-take (suc n) ws) in
+    sym (before_some w (take (suc n) ws) (λ e h. long e)) ∙ ap (before_words w) more
 
 -- one text after another
 pub printed_then : {T E : Type 0} (r : Result T E) (was mid is a b : List ℕ) → mid ≡ was ++ a → IfOk r (λ _. is ≡ mid ++ b) →

@@ -14,7 +14,7 @@ form k t = record { kind = k; text = t }
 
 -- what the code's forms mean
 abbrev pub form_of : code.Form → Form
-form_of f = form f.kind f.text.now
+form_of f = form f.0 f.1.now
 
 -- in the order in which they are tried
 abbrev pub forms : List Form

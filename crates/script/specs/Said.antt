@@ -27,6 +27,11 @@ Said o (Write open_page page n) bytes words = (o ≡ Some (line.write open_page 
 Said o (Print open_page page) bytes words = o ≡ Some (line.print open_page page)
 Said o Unreadable bytes words = o ≡ None
 
+-- The same of what may be no line of a form: where there is one, it can be read.
+abbrev pub Tried : Option line.Line → Option Line → List ℕ → List ℕ → Type 0
+Tried o None bytes words = o ≡ None
+Tried o (Some l) bytes words = Said o l bytes words × (is_some o ≡ true)
+
 -- The bytes of a call are read back as that call.
 abbrev pub Back : Option line.Line → Line → List ℕ → Type 0
 Back o (Call n) bytes = (c : model.Call) → o ≡ Some (line.call c) → read_call (take n bytes) ≡ c

@@ -1,15 +1,15 @@
 -- Numbers and places at the front of words: what is taken, and the words behind it.
 use Rattle.std.specs.Prelude.{ℕ, Bool, true, false, cond, List, [], ◌∷◌, Some, None, codes, Option}
-use Rattle.std.specs.Borrow.{Bor}
 use Rattle.std.specs.Option.{option_map}
 use Rattle.std.specs.Str.{bytes_eq}
 use Rattle.fields.specs.declared.values.Place.{Place}
-use Rattle.script.specs.Words.{words}
+use Rattle.script.specs.Words.{words_left}
 use Rattle.script.specs.Numerals.{number_of}
+use Rattle.script.specs.declared.words.Words.{Words}
 
 -- what code took, with the words behind it
-abbrev pub seen : {A : Type 0} → Option (A × Bor (List ℕ)) → Option (A × List (List ℕ))
-seen r = option_map (λ x. (x.0, words x.1.now)) r
+abbrev pub seen : {A : Type 0} → Option A → Words → Option (A × List (List ℕ))
+seen r w = option_map (λ x. (x, words_left w)) r
 
 -- one thing and then another
 abbrev pub and_then : {A B : Type 0} → Option (A × List (List ℕ)) → (A → List (List ℕ) → Option B) → Option B

@@ -1,14 +1,17 @@
 // A line's words against a form's.
-ghost use Rattle.std.specs.Prelude.{◌≡◌, ◌≤◌};
-ghost use Rattle.script.specs.Words.{words};
+ghost use Rattle.std.specs.Prelude.{◌≡◌};
+ghost use Rattle.script.specs.Words.{words, words_left};
 ghost use Rattle.script.specs.Taking.{seen};
 ghost use Rattle.script.specs.Fitting.{nothing_taken, with_number, with_place, take_word, fit as fitted};
+ghost use Rattle.script.specs.Lines.{taken_body};
+ghost use Rattle.fields.specs.Shapes.{body_of, numbers_of};
 
 use crate::taking::{take_number, take_place};
-use crate::words::{next, same};
-use fields::Place;
+use crate::words::Words;
+use fields::{Fields, Numbers, Place};
 
-// The numbers of a line, in their order and then zeros, and its place.
+// The numbers of a line, in their order and then zeros, and its place. A call has room for four numbers, with zeros behind those that it
+// has: so they stand in an array, with how many are taken beside it.
 #[derive(Clone, Copy)]
 pub struct Taken {
     pub numbers: [u64; 4],
@@ -16,75 +19,68 @@ pub struct Taken {
     pub place: Place,
 }
 
-fn with_number(taken: Taken, number: u64) -> Option<Taken>
-    ensures { result ≡ with_number taken number }
-{
-    if taken.count >= 4 {
-        return None;
+impl Taken {
+    // What is taken before the first word.
+    fn nothing() -> Taken
+        ensures { result ≡ nothing_taken }
+    {
+        Taken {
+            numbers: [0; 4],
+            count: 0,
+            place: Place::NOWHERE,
+        }
     }
-    let mut numbers = taken.numbers;
-    numbers[taken.count] = number;
-    Some(Taken {
-        numbers,
-        count: taken.count + 1,
-        place: taken.place,
-    })
-}
 
-fn with_place(mut taken: Taken, place: Place) -> Taken
-    ensures { result ≡ with_place taken place }
-{
-    taken.place = place;
-    taken
+    fn with_number(mut self, number: u64) -> Option<Taken>
+        ensures { result ≡ with_number self number }
+    {
+        if self.count >= 4 {
+            return None;
+        }
+        self.numbers[self.count] = number;
+        self.count += 1;
+        Some(self)
+    }
+
+    fn with_place(self, place: Place) -> Taken
+        ensures { result ≡ with_place self place }
+    {
+        Taken { place, ..self }
+    }
+
+    // The fields of a call, with this list.
+    pub fn fields(self, list: Numbers<'_>) -> Fields<'_>
+        ensures { body_of result ≡ taken_body self (numbers_of list.entry) }
+    {
+        let numbers = self.numbers;
+        Fields {
+            numbers,
+            place: self.place,
+            list,
+        }
+    }
 }
 
 // What one word of a form takes.
-fn take<'a>(sign: &[u8], line: &'a [u8], taken: Taken) -> Option<(Taken, &'a [u8])>
-    ensures { seen result ≡ take_word sign.now (words line.now) taken }
+#[tactic(auto, unfolding(crate::specs::Fitting::take_word))]
+fn take(sign: &[u8], line: &mut Words<'_>, taken: Taken) -> Option<Taken>
+    ensures { seen result line.new ≡ take_word sign.now (words_left line.old) taken }
 {
-    if same(sign, b"#") {
-        let Some((number, rest)) = take_number(line) else {
-            return None;
-        };
-        return match with_number(taken, number) {
-            Some(taken) => Some((taken, rest)),
-            None => None,
-        };
-    }
-    if same(sign, b"@") {
-        let Some((place, rest)) = take_place(line) else {
-            return None;
-        };
-        return Some((with_place(taken, place), rest));
-    }
-    let Some(cut) = next(line) else {
-        return None;
-    };
-    if same(cut.word, sign) {
-        Some((taken, cut.rest))
-    } else {
-        None
+    match sign {
+        b"#" => taken.with_number(take_number(line)?),
+        b"@" => Some(taken.with_place(take_place(line)?)),
+        word => (line.next()? == word).then_some(taken),
     }
 }
 
-// What a form takes from the front of a line, and what of the line stands behind it.
-pub fn fit<'a>(form: &[u8], line: &'a [u8]) -> Option<(Taken, &'a [u8])>
-    ensures { seen result ≡ fitted (words form.now) (words line.now) nothing_taken }
+// What a form takes from the front of a line.
+#[tactic(auto, unfolding(crate::specs::Fitting::fit))]
+pub fn fit(form: &[u8], line: &mut Words<'_>) -> Option<Taken>
+    ensures { seen result line.new ≡ fitted (words form.now) (words_left line.old) nothing_taken }
 {
-    let mut taken = Taken {
-        numbers: [0; 4],
-        count: 0,
-        place: Place::NOWHERE,
-    };
-    let mut rest = line;
-    let mut signs = form;
-    while let Some(sign) = next(signs) {
-        let Some((more, behind)) = take(sign.word, rest, taken) else {
-            return None;
-        };
-        taken = more;
-        rest = behind;
-        signs = sign.rest;
+    let mut taken = Taken::nothing();
+    for sign in Words(form) {
+        taken = take(sign, line, taken)?;
     }
-    Some((taken, rest))
+    Some(taken)
 }

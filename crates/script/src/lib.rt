@@ -19,8 +19,6 @@ pub use reading::read;
 pub use showing::{show_answer, show_page};
 
 // A number has one spelling, which is the one that is printed, and a call that a line is can be read back from its bytes.
-pub fn lines_stand() -> u8
+pub fn lines_stand()
     ensures { LinesStand }
-{
-    0
-}
+{}

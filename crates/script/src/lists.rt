@@ -2,12 +2,12 @@
 ghost use Rattle.std.specs.Prelude.{◌≡◌, ◌+◌, ◌≤◌, length};
 ghost use Rattle.fields.specs.Bytes.{number_bytes};
 ghost use Rattle.fields.specs.Steps.{Wrote};
-ghost use Rattle.script.specs.Words.{words};
+ghost use Rattle.script.specs.Words.{words_left};
 ghost use Rattle.script.specs.Lines.{word_of, registers, page_words};
 ghost use Rattle.script.specs.Said.{Listed, Interrupts, Filled};
 
 use crate::numerals::number;
-use crate::words::next;
+use crate::words::Words;
 
 fn put_number(bytes: &mut [u8], at: usize, number: u64)
     requires { at + 8 ≤ length bytes.old }
@@ -17,69 +17,51 @@ fn put_number(bytes: &mut [u8], at: usize, number: u64)
 }
 
 // Writes the numbers from the third byte on, and says how many there are.
-fn put_numbers(text: &[u8], bytes: &mut [u8]) -> Option<usize>
+fn put_numbers(words: Words<'_>, bytes: &mut [u8]) -> Option<usize>
     requires { 2042 ≤ length bytes.old }
-    ensures { Listed (registers (words text.now)) result bytes.old bytes.new }
+    ensures { Listed (registers (words_left words.entry)) result bytes.old bytes.new }
 {
     let mut count = 0;
-    let mut rest = text;
-    while let Some(cut) = next(rest) {
+    for word in words {
         if count == 255 {
             return None;
         }
-        let Some(number) = number(cut.word) else {
-            return None;
-        };
-        put_number(bytes, 2 + 8 * count, number);
+        put_number(bytes, 2 + 8 * count, number(word)?);
         count += 1;
-        rest = cut.rest;
     }
     Some(count)
 }
 
 // Writes the call of an interrupt with these registers.
-pub fn put_interrupt(text: &[u8], bytes: &mut [u8]) -> Option<usize>
+pub fn put_interrupt(words: Words<'_>, bytes: &mut [u8]) -> Option<usize>
     requires { 2042 ≤ length bytes.old }
-    ensures { Interrupts (registers (words text.now)) result bytes.new }
+    ensures { Interrupts (registers (words_left words.entry)) result bytes.new }
 {
-    let Some(count) = put_numbers(text, bytes) else {
-        return None;
-    };
+    let count = put_numbers(words, bytes)?;
     bytes[0] = 21;
     bytes[1] = count as u8;
     Some(2 + 8 * count)
 }
 
+#[tactic(auto, unfolding(crate::specs::Lines::word_of))]
 fn word(text: &[u8]) -> Option<u32>
     ensures { result ≡ word_of text.now }
 {
-    match number(text) {
-        Some(number) => if number < 1 << 32 {
-            Some(number as u32)
-        } else {
-            None
-        },
-        None => None,
-    }
+    u32::try_from(number(text)?).ok()
 }
 
 // The words of a page, and how many there are.
-pub fn put_words(text: &[u8], page: &mut [u32]) -> Option<usize>
+pub fn put_words(words: Words<'_>, page: &mut [u32]) -> Option<usize>
     requires { 1024 ≤ length page.old }
-    ensures { Filled (page_words (words text.now)) result page.new }
+    ensures { Filled (page_words (words_left words.entry)) result page.new }
 {
     let mut count = 0;
-    let mut rest = text;
-    while let Some(cut) = next(rest) {
+    for text in words {
         if count == 1024 {
             return None;
         }
-        let Some(word) = word(cut.word) else {
-            return None;
-        };
-        page[count] = word;
+        page[count] = word(text)?;
         count += 1;
-        rest = cut.rest;
     }
     Some(count)
 }

@@ -7,17 +7,8 @@ fn digits(word: &[u8]) -> Option<u64>
 {
     let mut number = 0u64;
     for byte in word {
-        if *byte < b'0' {
-            return None;
-        }
-        if *byte > b'9' {
-            return None;
-        }
-        let digit = (*byte - b'0') as u64;
-        if number > (u64::MAX - digit) / 10 {
-            return None;
-        }
-        number = 10 * number + digit;
+        let digit = char::from(*byte).to_digit(10)?;
+        number = number.checked_mul(10)?.checked_add(u64::from(digit))?;
     }
     Some(number)
 }
@@ -26,11 +17,8 @@ fn digits(word: &[u8]) -> Option<u64>
 pub fn number(word: &[u8]) -> Option<u64>
     ensures { result ≡ number_of word.now }
 {
-    if word.is_empty() {
-        return None;
+    match word {
+        [] | [b'0', _, ..] => None,
+        _ => digits(word),
     }
-    if word[0] == b'0' {
-        return if word.len() == 1 { Some(0) } else { None };
-    }
-    digits(word)
 }

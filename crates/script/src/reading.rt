@@ -1,113 +1,133 @@
 // Lines, by their forms.
-ghost use Rattle.std.specs.Prelude.{◌≡◌, ℕ, ◌≤◌, List, [], length};
-ghost use Rattle.script.specs.Words.{words as words_of};
+ghost use Rattle.std.specs.Prelude.{◌≡◌, ℕ, ◌≤◌, List, [], length, map};
+ghost use Rattle.std.specs.Option.{option_map};
+ghost use Rattle.std.specs.List.{AllByRecursion};
+ghost use Rattle.script.specs.Words.{words as words_of, words_left};
 ghost use Rattle.script.specs.Forms.{form_of};
-ghost use Rattle.script.specs.Lines.{taken_body, meant, as_form, skipped, line_of};
-ghost use Rattle.script.specs.Said.{Said, Back, Callable, Sound};
+ghost use Rattle.script.specs.Lines as line;
+ghost use Rattle.script.specs.Lines.{taken_body, alone, meant, as_form, first_form, skipped, line_of};
+ghost use Rattle.script.specs.Fitting.{nothing_taken};
+ghost use Rattle.script.specs.Said.{Said, Back, Tried, Callable, Sound};
 
-use crate::calling::{put_call, put_hold_from};
+use crate::calling::put_call;
 use crate::fitting::{Taken, fit};
-use crate::forms::{Form, Kind, form_at};
+use crate::forms::{FORMS, Form, Kind};
 use crate::line::Line;
 use crate::lists::{put_interrupt, put_words};
-use crate::words::next;
+use crate::words::Words;
+use fields::Numbers;
 
-fn call(number: u8, taken: Taken, rest: &[u8], bytes: &mut [u8]) -> Line
-    requires { (Callable number (taken_body taken [])) × (2042 ≤ length bytes.old) }
-    ensures { (ws : List ℕ) → Said (meant (Kind.Call number) taken (words_of rest.now)) result bytes.new ws }
+// Something, if no words are left.
+fn ended(mut rest: Words<'_>) -> Option<()>
+    ensures { (l : line.Line) → alone l (words_left rest.entry) ≡ option_map (λ u. l) result }
 {
-    let None = next(rest) else {
-        return Line::Unreadable;
-    };
-    Line::Call {
-        length: put_call(number, taken, bytes),
+    match rest.next() {
+        Some(_) => None,
+        None => Some(()),
     }
 }
 
-fn hold_from(taken: Taken, rest: &[u8], bytes: &mut [u8]) -> Line
+fn call(number: u8, taken: Taken, rest: Words<'_>, bytes: &mut [u8]) -> Option<Line>
+    requires callable { Callable number (taken_body taken []) }
+    requires room { 2042 ≤ length bytes.old }
+    ensures { (ws : List ℕ) → Tried (meant (Kind.Call number) taken (words_left rest.entry)) result bytes.new ws }
+{
+    ended(rest)?;
+    let length = put_call(number, taken.fields(Numbers::None), bytes);
+    Some(Line::Call { length })
+}
+
+// The third number is that of an open page to copy.
+fn hold_from(taken: Taken, rest: Words<'_>, bytes: &mut [u8]) -> Option<Line>
     requires { 2042 ≤ length bytes.old }
-    ensures { (ws : List ℕ) → Said (meant Kind.HoldFrom taken (words_of rest.now)) result bytes.new ws }
+    ensures { (ws : List ℕ) → Tried (meant Kind.HoldFrom taken (words_left rest.entry)) result bytes.new ws }
 {
-    let None = next(rest) else {
-        return Line::Unreadable;
-    };
-    Line::Call {
-        length: put_hold_from(taken, bytes),
-    }
+    ended(rest)?;
+    let length = put_call(4, taken.fields(Numbers::One(taken.numbers[2])), bytes);
+    Some(Line::Call { length })
 }
 
-fn interrupt(taken: Taken, rest: &[u8], bytes: &mut [u8]) -> Line
+fn interrupt(rest: Words<'_>, bytes: &mut [u8]) -> Option<Line>
     requires { 2042 ≤ length bytes.old }
-    ensures { (ws : List ℕ) → Said (meant Kind.Interrupt taken (words_of rest.now)) result bytes.new ws }
+    ensures { (ws : List ℕ) → Tried (meant Kind.Interrupt nothing_taken (words_left rest.entry)) result bytes.new ws }
 {
-    match put_interrupt(rest, bytes) {
-        Some(length) => Line::Call { length },
-        None => Line::Unreadable,
-    }
+    let length = put_interrupt(rest, bytes)?;
+    Some(Line::Call { length })
 }
 
-fn limits(taken: Taken, rest: &[u8]) -> Line
-    ensures { (bs ws : List ℕ) → Said (meant Kind.Limits taken (words_of rest.now)) result bs ws }
+fn limits(taken: Taken, rest: Words<'_>) -> Option<Line>
+    ensures { (bs ws : List ℕ) → Tried (meant Kind.Limits taken (words_left rest.entry)) result bs ws }
 {
-    let None = next(rest) else {
-        return Line::Unreadable;
-    };
-    Line::Limits {
+    ended(rest)?;
+    Some(Line::Limits {
         closed: taken.numbers[0],
         open: taken.numbers[1],
-    }
+    })
 }
 
-fn write(open: bool, taken: Taken, rest: &[u8], page: &mut [u32]) -> Line
+fn write(open: bool, taken: Taken, rest: Words<'_>, page: &mut [u32]) -> Option<Line>
     requires { 1024 ≤ length page.old }
-    ensures { (bs : List ℕ) → Said (meant (Kind.Write «open») taken (words_of rest.now)) result bs page.new }
+    ensures { (bs : List ℕ) → Tried (meant (Kind.Write «open») taken (words_left rest.entry)) result bs page.new }
 {
-    match put_words(rest, page) {
-        Some(count) => Line::Write {
-            open,
-            page: taken.numbers[0],
-            count,
-        },
-        None => Line::Unreadable,
-    }
-}
-
-fn print(open: bool, taken: Taken, rest: &[u8]) -> Line
-    ensures { (bs ws : List ℕ) → Said (meant (Kind.Print «open») taken (words_of rest.now)) result bs ws }
-{
-    let None = next(rest) else {
-        return Line::Unreadable;
-    };
-    Line::Print {
+    let count = put_words(rest, page)?;
+    Some(Line::Write {
         open,
         page: taken.numbers[0],
-    }
+        count,
+    })
+}
+
+fn print(open: bool, taken: Taken, rest: Words<'_>) -> Option<Line>
+    ensures { (bs ws : List ℕ) → Tried (meant (Kind.Print «open») taken (words_left rest.entry)) result bs ws }
+{
+    ended(rest)?;
+    Some(Line::Print {
+        open,
+        page: taken.numbers[0],
+    })
 }
 
 // A line of one form.
-fn read_as(form: Form, text: &[u8], bytes: &mut [u8], words: &mut [u32]) -> Line
-    requires { (Sound form.kind) × ((2042 ≤ length bytes.old) × (1024 ≤ length words.old)) }
-    ensures { Said (as_form (form_of form) (words_of text.now)) result bytes.new words.new }
+#[tactic(auto, unfolding(crate::specs::Lines::as_form))]
+fn read_as(form: &Form, text: &[u8], bytes: &mut [u8], words: &mut [u32]) -> Option<Line>
+    requires sound { Sound form.now.0 }
+    requires room { 2042 ≤ length bytes.old }
+    requires page { 1024 ≤ length words.old }
+    ensures { Tried (as_form (form_of form.now) (words_of text.now)) result bytes.new words.new }
 {
-    let Some((taken, rest)) = fit(form.text, text) else {
-        return Line::Unreadable;
-    };
-    match form.kind {
-        Kind::Call { number } => call(number, taken, rest, bytes),
+    let mut rest = Words(text);
+    let taken = fit(form.1, &mut rest)?;
+    match form.0 {
+        Kind::Call(number) => call(number, taken, rest, bytes),
         Kind::HoldFrom => hold_from(taken, rest, bytes),
-        Kind::Interrupt => interrupt(taken, rest, bytes),
+        Kind::Interrupt => interrupt(rest, bytes),
         Kind::Limits => limits(taken, rest),
         Kind::Write { open } => write(open, taken, rest, words),
         Kind::Print { open } => print(open, taken, rest),
     }
 }
 
+// A line of the first of these forms that it is of.
+fn read_by(forms: &[Form], text: &[u8], bytes: &mut [u8], words: &mut [u32]) -> Option<Line>
+    requires sound { AllByRecursion (λ f. Sound f.0) forms.now }
+    requires room { 2042 ≤ length bytes.old }
+    requires page { 1024 ≤ length words.old }
+    ensures { Tried (first_form (map form_of forms.now) (words_of text.now)) result bytes.new words.new }
+{
+    for form in forms {
+        if let Some(line) = read_as(form, text, bytes, words) {
+            return Some(line);
+        }
+    }
+    None
+}
+
 // Whether a line is empty, or a remark.
 fn is_skipped(text: &[u8]) -> bool
     ensures { result ≡ skipped (words_of text.now) }
 {
-    match next(text) {
-        Some(cut) => cut.word[0] == b'#',
+    match Words(text).next() {
+        Some(word) => word.first() == Some(&b'#'),
         None => true,
     }
 }
@@ -121,12 +141,5 @@ pub fn read(text: &[u8], bytes: &mut [u8], words: &mut [u32]) -> Line
     if is_skipped(text) {
         return Line::Skip;
     }
-    let mut index = 0;
-    while let Some(form) = form_at(index) {
-        match read_as(form, text, bytes, words) {
-            Line::Unreadable => index += 1,
-            line => return line,
-        }
-    }
-    Line::Unreadable
+    read_by(&FORMS, text, bytes, words).unwrap_or(Line::Unreadable)
 }

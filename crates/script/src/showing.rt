@@ -59,11 +59,10 @@ pub fn show_answer(answer: Answer<'_>, out: &mut String) -> fmt::Result
 fn used(words: &[u32]) -> usize
     ensures { (take result words.now ≡ trimmed words.now) × (result ≤ length words.now) }
 {
-    let mut count = words.len();
-    while count > 0 && words[count - 1] == 0 {
-        count -= 1;
-    }
-    count
+    words
+        .iter()
+        .rposition(|word| *word != 0)
+        .map_or(0, |last| last + 1)
 }
 
 fn show_words(words: &[u32], out: &mut String) -> fmt::Result

@@ -1,12 +1,10 @@
-use Rattle.std.proofs.Common.{◌≡◌, ◌≤◌, length, take}
-use Rattle.script.specs.Words.{words}
+use Rattle.std.proofs.Common.{◌≡◌, ◌≤◌, take}
+use Rattle.script.specs.Words.{words_left}
 use Rattle.script.specs.Lines.{each, word_of}
 use Rattle.script.proofs.Series.{prefixed}
 use Rattle.script.proofs.lists.put_words.Given as goal
 
-abbrev pub invariant-loop-cut : goal.invariant-loop-cut
-invariant-loop-cut l =
-    (each word_of (words l.text) ≡ prefixed (take l.count l.page) (each word_of (words l.rest))) × (l.count ≤ 1024)
-
-abbrev pub decreases-loop-cut : goal.decreases-loop-cut
-decreases-loop-cut l = length l.rest
+abbrev pub invariant-loop-text : goal.invariant-loop-text
+invariant-loop-text l =
+    (each word_of (words_left l.fn.words) ≡ prefixed (take l.count l.page) (each word_of (words_left l.text-iterator)))
+    × (l.count ≤ 1024)

@@ -1,20 +1,15 @@
-use Rattle.std.proofs.Common.{sym, ◌∙◌, arith, eqb-true}
-use borrow.Author.Tests.{eqb-false}
-use Rattle.script.proofs.Figures.{number_none, number_zero, number_leading, number_digits}
+use Rattle.std.proofs.Common.{◌≡◌, ◌<◌, length, get_or, sym, ◌∙◌, arith, rules}
+use Rattle.script.proofs.Figures.{number_none, number_leading, number_digits}
 use Rattle.script.proofs.numerals.number.Goals as goal
 
-pub returns-then-is_empty : goal.returns-then-is_empty
-returns-then-is_empty c = sym (number_none c.args.word.now (eqb-true _ _ (sym c.if-is_empty.ensures)))
+pub returns-in-empty : goal.returns-in-empty
+returns-in-empty c = sym (number_none c.args.word.now (omega arith))
 
-pub returns-then-word-eq1 : goal.returns-then-word-eq1
-returns-then-word-eq1 c = sym (number_zero c.args.word.now c.if-word-eq1.true c.if-word-eq48.true)
+pub returns-in-empty-2 : goal.returns-in-empty-2
+returns-in-empty-2 c = sym (number_leading c.args.word.now (omega arith) (search rules))
 
-pub returns-else-word-eq1 : goal.returns-else-word-eq1
-returns-else-word-eq1 c =
-    sym (number_leading c.args.word.now (omega (arith, eqb-false _ _ (sym c.if-is_empty.ensures), c.if-word-eq1.false))
-    c.if-word-eq48.true)
-
-pub returns : goal.returns
-returns c =
-    c.digits.ensures ∙ sym (number_digits c.args.word.now (omega (arith, eqb-false _ _ (sym c.if-is_empty.ensures)))
-    c.if-word-eq48.false)
+pub returns-in_default : goal.returns-in_default
+returns-in_default c =
+    let some : 0 < length c.args.word.now = search rules in
+    let other : 1 < length c.args.word.now → get_or c.args.word.now 0 0 ≡ 48 → ⊥ = search rules in
+    c.digits.ensures ∙ sym (number_digits c.args.word.now some other)

@@ -1,22 +1,12 @@
-use Rattle.std.proofs.Common.{length, ap, arith}
-use Rattle.std.proofs.lemmas.List.{take_all}
-use Rattle.script.specs.Shown.{trimmed}
-use Rattle.script.proofs.Printing.{trim_more, trim_end}
+use Rattle.std.proofs.Common.{◌≡◌, ℕ, ◌-◌, ◌<◌, ◌≤◌, length, get_or, rules}
+use Rattle.script.proofs.Printing.{trimmed_at}
 use Rattle.script.proofs.showing.used.Goals as goal
 
-pub loop-count-init : goal.loop-count-init
-loop-count-init c = (omega arith, ap trimmed (take_all (length c.args.words.now) c.args.words.now (omega arith)))
-
-pub loop-count-preserved : goal.loop-count-preserved
-loop-count-preserved c = (
-  omega arith,
-  trim_more c.args.words.now c.loop-count.count (omega arith) (omega arith) c.if-words-count-eq0.true
-      c.loop-count.invariant.1,
-)
-
-pub returns-else-words-count-eq0 : goal.returns-else-words-count-eq0
-returns-else-words-count-eq0 c = (
-  trim_end c.args.words.now c.loop-count.count (omega arith) (omega arith) c.if-words-count-eq0.false
-      c.loop-count.invariant.1,
-  omega arith,
-)
+pub returns : goal.returns
+returns c =
+    let words = c.args.words.now in
+    let n = c.map_or.result in
+    let within : n ≤ length words = search rules in
+    let zeros : (k : ℕ) → n ≤ k → k < length words → get_or words k 0 ≡ 0 = search rules in
+    let last : 0 < n → get_or words (n - 1) 0 ≡ 0 → ⊥ = search rules in
+    (trimmed_at words n within zeros last, within)

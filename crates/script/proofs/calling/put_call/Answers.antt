@@ -2,17 +2,14 @@ use Rattle.fields.specs.Shapes.{body_of}
 use Rattle.calls.specs.Meaning.{call_of}
 use Rattle.script.specs.Lines.{call_with}
 use Rattle.script.proofs.Standing.{put_fields, put_fails}
-use Rattle.script.proofs.calling.put_fields.Goals as goal
-
-pub call_from-requires : goal.call_from-requires
-call_from-requires c = c.requires.0.known
+use Rattle.script.proofs.calling.put_call.Goals as goal
 
 pub unreachable-requires : goal.unreachable-requires
 unfolding call_with
 unreachable-requires c =
     put_fails (call_of c.call_from.result) c.args.number (body_of c.args.fields) c.args.bytes.now c.write.new.out
     c.in-Err.field-0
-    c.call_from.ensures c.requires.0 c.requires.1 c.in-Err.ensures
+    c.call_from.ensures c.requires.callable c.requires.room c.in-Err.ensures
 
 pub returns : goal.returns
 unfolding call_with
