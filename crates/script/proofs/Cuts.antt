@@ -1,5 +1,6 @@
 -- How the first word is cut off a text.
-use Rattle.std.proofs.Common.{◌≡◌, ℕ, zero, suc, ◌-◌, ◌<◌, ◌≤◌, List, [], ◌∷◌, length, get_or, take, drop, refl, sym, ap, ◌∙◌, subst, add-zero, arith, length-drop, ne_eqb}
+use Rattle.std.proofs.Common.{◌≡◌, ℕ, zero, suc, ◌-◌, ◌<◌, ◌≤◌, true, false, eqb, List, [], ◌∷◌, length, get_or, take, drop, refl, sym, ap, ◌∙◌, subst, add-zero, arith, length-drop, ne_eqb, eqb-true}
+use borrow.Author.Tests.{eqb-false}
 use Rattle.std.proofs.lemmas.List.{drop_all, get_or-drop}
 use Rattle.script.specs.Words.{in_front, parted, words}
 
@@ -43,17 +44,20 @@ first_word [] (suc n) some within letters space = absurd (omega arith)
 first_word (b ∷ bs) (suc n) some within letters space =
     ap (λ p. in_front p.0 p.1) (parted_at (b ∷ bs) (suc n) within letters space)
 
--- a text of spaces alone
-pub no_words : (text : List ℕ) → ((k : ℕ) → k < length text → get_or text k 0 ≡ 32) → words text ≡ []
+-- as code has it: the text from its first letter on, at `start`, and the tests of each byte
+pub no_words : (text rest : List ℕ) (start : ℕ) → rest ≡ drop start text → ((k : ℕ) → k < start → eqb (get_or text k 0) 32 ≡ true) →
+    true ≡ eqb (length rest) 0 → words text ≡ []
 unfolding words
-no_words text spaces = sym (words_behind text (length text) spaces) ∙ ap words (drop_all (length text) text (omega arith))
+no_words text rest start is spaces empty =
+    let none : length rest ≡ 0 = eqb-true _ _ (sym empty) in
+    let past : length text ≤ start = omega (arith, none, ap length is, length-drop start text) in
+    sym (words_behind text start (λ k h. eqb-true _ _ (spaces k h))) ∙ ap words (drop_all start text past)
 
--- as code has it: `rest` is the text from its first letter on, at `start`, and is split at `end`
-pub next_word : (text rest word behind : List ℕ) (start end : ℕ) → rest ≡ drop start text → start < length text →
+next_word_at : (text rest word behind : List ℕ) (start end : ℕ) → rest ≡ drop start text → start < length text →
     ((k : ℕ) → k < start → get_or text k 0 ≡ 32) → (get_or text start 0 ≡ 32 → ⊥) →
     end ≤ length rest → ((k : ℕ) → k < end → get_or rest k 0 ≡ 32 → ⊥) → (end < length rest → get_or rest end 0 ≡ 32) →
     word ≡ take end rest → behind ≡ drop end rest → words text ≡ word ∷ words behind
-next_word text rest word behind start end is inside spaces letter within letters space front back =
+next_word_at text rest word behind start end is inside spaces letter within letters space front back =
     let first : get_or rest 0 0 ≡ get_or text start 0 = ap (λ t. get_or t 0 0) is ∙ get_or-drop start text 0 0
     ∙ ap (λ k. get_or text k 0) (add-zero start) in
     let long : length rest ≡ length text - start = ap length is ∙ length-drop start text in
@@ -65,3 +69,15 @@ next_word text rest word behind start end is inside spaces letter within letters
         length rest ≡ length text - start → 0 < n
     by_end zero space first long = absurd (letter (sym first ∙ space (omega arith)))
     by_end (suc n) space first long = omega arith
+
+pub next_word : (text rest word behind : List ℕ) (start end : ℕ) → rest ≡ drop start text →
+    ((k : ℕ) → k < start → eqb (get_or text k 0) 32 ≡ true) → (start < length text → eqb (get_or text start 0) 32 ≡ false) →
+    false ≡ eqb (length rest) 0 → end ≤ length rest → ((k : ℕ) → k < end → eqb (get_or rest k 0) 32 ≡ false) →
+    (end < length rest → eqb (get_or rest end 0) 32 ≡ true) →
+    word ≡ take end rest → behind ≡ drop end rest → words text ≡ word ∷ words behind
+next_word text rest word behind start end is spaces letter some within letters space front back =
+    let long : length rest ≡ length text - start = ap length is ∙ length-drop start text in
+    let inside : start < length text = omega (arith, long, eqb-false _ _ (sym some)) in
+    next_word_at text rest word behind start end is inside (λ k h. eqb-true _ _ (spaces k h)) (eqb-false _ _ (letter inside)) within
+    (λ k h. eqb-false _ _ (letters k h))
+    (λ h. eqb-true _ _ (space h)) front back

@@ -69,7 +69,11 @@ fn take(sign: &[u8], line: &mut Words<'_>, taken: Taken) -> Option<Taken>
     match sign {
         b"#" => taken.with_number(take_number(line)?),
         b"@" => Some(taken.with_place(take_place(line)?)),
-        word => (line.next()? == word).then_some(taken),
+        word => if line.next()? == word {
+            Some(taken)
+        } else {
+            None
+        },
     }
 }
 
