@@ -1,9 +1,7 @@
 -- How numbers are printed one by one, and how many words of a page are.
-use Rattle.std.proofs.Common.{◌≡◌, ℕ, zero, suc, ◌+◌, ◌-◌, ◌<◌, ◌≤◌, List, [], ◌∷◌, ◌++◌, length, get_or, take, IfOk, Some, None, Ok, Err, codes, decimal, Result, sym, refl, ap, ◌∙◌, append_assoc, append-nil, arith, length-take, ne_eqb}
-use Rattle.std.specs.List.{slice_get}
+use Rattle.std.proofs.Common.{◌≡◌, ℕ, zero, suc, ◌+◌, ◌-◌, ◌<◌, ◌≤◌, List, [], ◌∷◌, ◌++◌, length, get_or, take, decimal, sym, refl, ap, ◌∙◌, append_assoc, append-nil, arith, length-take, ne_eqb}
 use Rattle.std.proofs.lemmas.List.{take_more}
-use Rattle.std.proofs.lemmas.Option.{slice_get-get_or}
-use Rattle.script.specs.Shown.{spaced, with_numbers, before_words, trimmed}
+use Rattle.script.specs.Shown.{spaced, before_words, trimmed}
 
 spaced_more : (ns : List ℕ) (n : ℕ) → spaced (ns ++ n ∷ []) ≡ spaced ns ++ (32 ∷ decimal n)
 spaced_more [] n = ap (λ t. 32 ∷ t) (append-nil (decimal n))
@@ -11,22 +9,8 @@ spaced_more (m ∷ ns) n =
     ap (λ t. 32 ∷ (decimal m ++ t)) (spaced_more ns n) ∙ ap (λ t. 32 ∷ t) (sym (append_assoc (decimal m) (spaced ns) (32 ∷ decimal n)))
 
 -- one number more is printed
-pub printed_more : (was is later ns : List ℕ) (i : ℕ) → i < length ns → is ≡ was ++ spaced (take i ns) →
-    later ≡ is ++ (32 ∷ decimal (get_or ns i 0)) → later ≡ was ++ spaced (take (i + 1) ns)
-printed_more was is later ns i h so_far e =
-    let one : List ℕ = 32 ∷ decimal (get_or ns i 0) in
-    e ∙ ap (λ t. t ++ one) so_far ∙ append_assoc was (spaced (take i ns)) one
-    ∙ ap (λ t. was ++ t) (sym (spaced_more (take i ns) (get_or ns i 0)) ∙ ap spaced (sym (take_more ns i 0 h)))
-
-pub printed_next : (was is later ns : List ℕ) (i n : ℕ) → i < length ns → Some n ≡ slice_get ns i → is ≡ was ++ spaced (take i ns) →
-    later ≡ is ++ (32 ∷ decimal n) → later ≡ was ++ spaced (take (i + 1) ns)
-printed_next was is later ns i n h e so_far f =
-    let s = slice_get-get_or ns i 0 h in
-    let g : n ≡ get_or ns i 0 = cc in
-    printed_more was is later ns i h so_far (f ∙ ap (λ k. is ++ (32 ∷ decimal k)) g)
-
-pub nth_missing : (ns : List ℕ) (i : ℕ) → i < length ns → None ≡ slice_get ns i → ⊥
-nth_missing ns i h e = let s = slice_get-get_or ns i 0 h in let z : ◌≡◌ {A = ℕ} 0 1 = cc in omega arith
+pub spaced_step : (ns : List ℕ) (i : ℕ) → i < length ns → spaced (take i ns) ++ (32 ∷ decimal (get_or ns i 0)) ≡ spaced (take (i + 1) ns)
+spaced_step ns i h = sym (spaced_more (take i ns) (get_or ns i 0)) ∙ ap spaced (sym (take_more ns i 0 h))
 
 -- a word in front of others, of which it or one more is not 0
 before_some : (w : ℕ) (ws : List ℕ) → (length ws ≡ 0 → w ≡ 0 → ⊥) → before_words w ws ≡ w ∷ ws
@@ -51,27 +35,3 @@ trimmed_at (w ∷ ws) (suc (suc n)) within zeros last =
     let more = trimmed_at ws (suc n) (omega arith) (λ k h l. zeros (suc k) (omega arith) (omega arith)) (λ h. final) in
     let long : length (take (suc n) ws) ≡ 0 → ⊥ = λ e. omega (arith, length-take (suc n) ws) in
     sym (before_some w (take (suc n) ws) (λ e h. long e)) ∙ ap (before_words w) more
-
--- one text after another
-pub printed_then : {T E : Type 0} (r : Result T E) (was mid is a b : List ℕ) → mid ≡ was ++ a → IfOk r (λ _. is ≡ mid ++ b) →
-    IfOk r (λ _. is ≡ was ++ (a ++ b))
-printed_then (Ok x) was mid is a b e w = w ∙ ap (λ t. t ++ b) e ∙ append_assoc was a b
-printed_then (Err x) was mid is a b e w = tt
-
--- the same text, said otherwise
-pub printed_is : {T E : Type 0} (r : Result T E) (was is a b : List ℕ) → a ≡ b → IfOk r (λ _. is ≡ was ++ a) → IfOk r (λ _. is ≡ was ++ b)
-printed_is (Ok x) was is a b e w = w ∙ ap (λ t. was ++ t) e
-printed_is (Err x) was is a b e w = tt
-
-pub with_some : (ns : List ℕ) → (0 ≡ length ns → ⊥) → codes " with" ++ spaced ns ≡ with_numbers ns
-with_some [] h = absurd (h refl)
-with_some (n ∷ ns) h = refl
-
--- a page: its name, its number, and its words but for the zeros at the end
-pub page_printed : {T E : Type 0} (r : Result T E) (was m₁ m₂ is name d ws : List ℕ) (k : ℕ) → m₁ ≡ was ++ name →
-    m₂ ≡ m₁ ++ (d ++ 58 ∷ []) → take k ws ≡ trimmed ws → IfOk r (λ _. is ≡ m₂ ++ spaced (take (k - 0) ws)) →
-    IfOk r (λ _. is ≡ was ++ (name ++ (d ++ (58 ∷ spaced (trimmed ws)))))
-page_printed (Ok x) was m₁ m₂ is name d ws k e₁ e₂ t w =
-    let z : k - 0 ≡ k = omega arith in
-    w ∙ ap (λ t. t ++ spaced (take (k - 0) ws)) (e₂ ∙ ap (λ t. t ++ (d ++ 58 ∷ [])) e₁) ∙ rw (z, t) (simp append_assoc)
-page_printed (Err x) was m₁ m₂ is name d ws k e₁ e₂ t w = tt

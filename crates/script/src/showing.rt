@@ -1,57 +1,79 @@
 // Answers and pages, printed.
-ghost use Rattle.std.specs.Prelude.{◌≡◌, ◌≤◌, length, take, string_bytes as bytes_of};
+ghost use Rattle.std.specs.Prelude.{◌≡◌, ◌≤◌, length, take, Some, string_bytes as bytes_of};
 ghost use Rattle.fields.specs.Shapes.{numbers_of};
 ghost use Rattle.answers.specs.Meaning.{answer_of};
-ghost use Rattle.script.specs.Shown.{Adds, spaced, with_numbers, answer_text, trimmed, page_name, page_text};
+ghost use Rattle.script.specs.Shown.{Adds, spaced, with_numbers, answer_text, trimmed, page_text};
 
 use answers::Answer;
 use fields::Numbers;
 use std::fmt;
 
-fn show_numbers(numbers: Numbers<'_>, out: &mut String) -> fmt::Result
-    ensures { Adds result (bytes_of out.old) (bytes_of out.new) (spaced (numbers_of numbers.entry)) }
-{
-    for index in 0..numbers.len() {
-        let Some(number) = numbers.at(index) else {
-            unreachable()
-        };
-        write!(out, " {number}")?;
+// The numbers of a list, each behind a space.
+#[derive(Clone, Copy)]
+struct Spaced<'a>(Numbers<'a>);
+
+impl fmt::Display for Spaced<'_> {
+    ghost output = { λ s. Some (spaced (numbers_of s.0)) };
+
+    fn fmt<W: fmt::Write>(&self, f: &mut fmt::Formatter<W>) -> fmt::Result {
+        for number in self.0 {
+            write!(f, " {number}")?;
+        }
+        Ok(())
     }
-    Ok(())
 }
 
-fn show_with(numbers: Numbers<'_>, out: &mut String) -> fmt::Result
-    ensures { Adds result (bytes_of out.old) (bytes_of out.new) (with_numbers (numbers_of numbers.entry)) }
-{
-    if numbers.len() == 0 {
-        return Ok(());
+// What follows `enters T` and `told E`.
+#[derive(Clone, Copy)]
+struct With<'a>(Numbers<'a>);
+
+impl fmt::Display for With<'_> {
+    ghost output = { λ w. Some (with_numbers (numbers_of w.0)) };
+
+    fn fmt<W: fmt::Write>(&self, f: &mut fmt::Formatter<W>) -> fmt::Result {
+        if self.0.len() == 0 {
+            return Ok(());
+        }
+        let numbers = Spaced(self.0);
+        write!(f, " with{numbers}")
     }
-    write!(out, " with")?;
-    show_numbers(numbers, out)
+}
+
+// An answer's line, without its end.
+#[derive(Clone, Copy)]
+struct AnswerLine<'a>(Answer<'a>);
+
+impl fmt::Display for AnswerLine<'_> {
+    ghost output = { λ line. Some (answer_text (answer_of line.0)) };
+
+    fn fmt<W: fmt::Write>(&self, f: &mut fmt::Formatter<W>) -> fmt::Result {
+        match self.0 {
+            Answer::Refused { refusal } => {
+                let number = refusal.number;
+                let place = refusal.place;
+                write!(f, "refused {number} at {place}")
+            }
+            Answer::Done => write!(f, "done"),
+            Answer::Number { number } => write!(f, "number {number}"),
+            Answer::Enters { top, registers } => {
+                let registers = With(registers);
+                write!(f, "enters {top}{registers}")
+            }
+            Answer::Told { error, numbers } => {
+                let numbers = With(numbers);
+                write!(f, "told {error}{numbers}")
+            }
+            Answer::Left { how, number } => write!(f, "left {how} {number}"),
+        }
+    }
 }
 
 // Adds an answer's line, without its end, to a text.
 pub fn show_answer(answer: Answer<'_>, out: &mut String) -> fmt::Result
     ensures { Adds result (bytes_of out.old) (bytes_of out.new) (answer_text (answer_of answer.entry)) }
 {
-    match answer {
-        Answer::Refused { refusal } => {
-            let number = refusal.number;
-            let place = refusal.place;
-            write!(out, "refused {number} at {place}")?;
-        }
-        Answer::Done => write!(out, "done")?,
-        Answer::Number { number } => write!(out, "number {number}")?,
-        Answer::Enters { top, registers } => {
-            write!(out, "enters {top}")?;
-            show_with(registers, out)?;
-        }
-        Answer::Told { error, numbers } => {
-            write!(out, "told {error}")?;
-            show_with(numbers, out)?;
-        }
-        Answer::Left { how, number } => write!(out, "left {how} {number}")?,
-    }
+    let line = AnswerLine(answer);
+    write!(out, "{line}")?;
     Ok(())
 }
 
@@ -65,31 +87,33 @@ fn used(words: &[u32]) -> usize
         .map_or(0, |last| last + 1)
 }
 
-fn show_words(words: &[u32], out: &mut String) -> fmt::Result
-    ensures { Adds result (bytes_of out.old) (bytes_of out.new) (spaced words.now) }
-{
-    for word in words {
-        write!(out, " {word}")?;
-    }
-    Ok(())
+// A page's line, without its end.
+#[derive(Clone, Copy)]
+struct PageLine<'a> {
+    open: bool,
+    page: u64,
+    words: &'a [u32],
 }
 
-fn show_name(open: bool, out: &mut String) -> fmt::Result
-    ensures { Adds result (bytes_of out.old) (bytes_of out.new) (page_name «open») }
-{
-    if open {
-        write!(out, "open ")?;
-    } else {
-        write!(out, "closed ")?;
+impl fmt::Display for PageLine<'_> {
+    ghost output = { λ line. Some (page_text line.«open» line.page line.words.now) };
+
+    fn fmt<W: fmt::Write>(&self, f: &mut fmt::Formatter<W>) -> fmt::Result {
+        let name = if self.open { "open" } else { "closed" };
+        let page = self.page;
+        write!(f, "{name} {page}:")?;
+        for word in &self.words[..used(self.words)] {
+            write!(f, " {word}")?;
+        }
+        Ok(())
     }
-    Ok(())
 }
 
 // Adds a page's line, without its end, to a text.
 pub fn show_page(open: bool, page: u64, words: &[u32], out: &mut String) -> fmt::Result
     ensures { Adds result (bytes_of out.old) (bytes_of out.new) (page_text «open» page words.now) }
 {
-    show_name(open, out)?;
-    write!(out, "{page}:")?;
-    show_words(&words[0..used(words)], out)
+    let line = PageLine { open, page, words };
+    write!(out, "{line}")?;
+    Ok(())
 }
