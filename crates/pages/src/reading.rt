@@ -5,7 +5,7 @@ ghost use Rattle.pages.specs.Packing.{some_from};
 ghost use Rattle.pages.specs.Meaning.{slot_of, phase_from, record_in, measure_in, word_at};
 
 use crate::packing::unpack;
-use crate::values::{HEADER, LIST, Phase, RECORD, Record, Slot};
+use crate::values::{LIST, Phase, Record, Slot, start_of};
 use fields::Registers;
 use sha256::{Hash, Measure};
 
@@ -14,7 +14,7 @@ fn number(memory: &[u64], page: u64, index: usize) -> u64
     requires { (HasPage memory.now page) × (index < 2048) }
     ensures { result ≡ number_at memory.now page index }
 {
-    memory[HEADER + page as usize * RECORD + index]
+    memory[start_of(page) + index]
 }
 
 // The low 32 bits of it.

@@ -1,14 +1,23 @@
 // What stands in the memory.
+ghost use Rattle.std.specs.Prelude.{◌≡◌, ◌+◌, ◌*◌, ◌^◌, ◌<◌};
 
 // How many numbers the header has, and a page's record, and where in a record its list begins.
-pub const HEADER: usize = 256;
+const HEADER: usize = 256;
 
 pub const RECORD: usize = 2048;
 
 pub const LIST: usize = 4;
 
+// Where a page's record begins.
+pub fn start_of(page: u64) -> usize
+    requires { 256 + page * 2048 < 2 ^ 64 }
+    ensures { result ≡ 256 + page * 2048 }
+{
+    HEADER + page as usize * RECORD
+}
+
 // How far a cell is: pages are put into it, or it may run, or it runs no more.
-#[derive(Clone, Copy)]
+#[derive(Clone, Copy, Debug, PartialEq, Eq)]
 pub enum Phase {
     Building,
     Sealed,
@@ -16,7 +25,7 @@ pub enum Phase {
 }
 
 // What a closed page is, without the list in its record. A cell is named by its first page.
-#[derive(Clone, Copy)]
+#[derive(Clone, Copy, Debug, PartialEq, Eq)]
 pub enum Record {
     Free,
     Cell {
@@ -43,7 +52,7 @@ pub enum Record {
 }
 
 // What a slot of a table has.
-#[derive(Clone, Copy)]
+#[derive(Clone, Copy, Debug, PartialEq, Eq)]
 pub enum Slot {
     Nothing,
     Closed { page: u64, write: bool, run: bool },

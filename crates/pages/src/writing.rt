@@ -1,5 +1,5 @@
 // What stands in the memory, written.
-ghost use Rattle.std.specs.Prelude.{◌≡◌, ◌+◌, ◌*◌, ◌^◌, ◌<◌, ◌≤◌, length};
+ghost use Rattle.std.specs.Prelude.{◌≡◌, ◌+◌, ◌*◌, ◌^◌, ◌<◌, ◌≤◌, length, replicate};
 ghost use Rattle.model.specs.Pages.{free as free_entry, phase_number};
 ghost use Rattle.pages.specs.Layout.{row};
 ghost use Rattle.pages.specs.Packing.{some_number};
@@ -8,7 +8,7 @@ ghost use Rattle.pages.specs.Rows.{running_put, new_memory};
 ghost use Rattle.pages.specs.Meaning.{slot_of, Packs, phase_of, beginning, fresh, measure_words};
 
 use crate::packing::pack;
-use crate::values::{HEADER, LIST, Phase, RECORD, Record, Slot};
+use crate::values::{LIST, Phase, RECORD, Record, Slot, start_of};
 use fields::Registers;
 use sha256::Measure;
 
@@ -27,15 +27,15 @@ fn put_number(memory: &mut [u64], page: u64, index: usize, number: u64)
     requires { (HasPage memory.old page) × (index < 2048) }
     ensures { memory.new ≡ number_put memory.old page index number }
 {
-    memory[HEADER + page as usize * RECORD + index] = number;
+    memory[start_of(page) + index] = number;
 }
 
 // Puts numbers from an index of a page's record on.
-fn put_numbers(memory: &mut [u64], page: u64, index: usize, numbers: &[u64])
+pub fn put_numbers(memory: &mut [u64], page: u64, index: usize, numbers: &[u64])
     requires { (HasPage memory.old page) × (index + length numbers.now ≤ 2048) }
     ensures { memory.new ≡ numbers_put memory.old page index numbers.now }
 {
-    let start = HEADER + page as usize * RECORD + index;
+    let start = start_of(page) + index;
     memory[start..start + numbers.len()].copy_from_slice(numbers);
 }
 
@@ -125,31 +125,41 @@ pub fn put_running(memory: &mut [u64], thread: Option<u64>)
     };
 }
 
+// Makes the first so many numbers of a page's record 0.
+pub fn clear(memory: &mut [u64], page: u64, count: usize)
+    requires { (HasPage memory.old page) × (count ≤ 2048) }
+    ensures { memory.new ≡ numbers_put memory.old page 0 (replicate count 0) }
+{
+    let start = start_of(page);
+    memory[start..start + count].fill(0);
+}
+
 // Lets a page go: it is free, and its record is zeros.
 pub fn let_go(memory: &mut [u64], page: u64)
     requires { HasPage memory.old page }
     ensures { memory.new ≡ row_put memory.old page (row free_entry) }
 {
-    let start = HEADER + page as usize * RECORD;
-    memory[start..start + RECORD].fill(0);
+    clear(memory, page, RECORD);
 }
 
-// The four numbers that a record begins with.
-fn line_of(new: Record) -> [u64; 4]
-    ensures { result ≡ beginning new }
-{
-    match new {
-        Record::Free => [0; 4],
-        Record::Cell { top, phase } => [1, 0, top, number_of(phase)],
-        Record::Thread {
-            cell,
-            start,
-            under_way,
-        } => [2, cell, start, under_way as u64],
-        Record::Top { cell } => [3, cell, 0, 0],
-        Record::Table { cell } => [4, cell, 0, 0],
-        Record::Held { cell } => [5, cell, 0, 0],
-        Record::Spare { cell } => [6, cell, 0, 0],
+impl Record {
+    // The four numbers that its record begins with.
+    pub fn beginning(self) -> [u64; 4]
+        ensures { result ≡ beginning self }
+    {
+        match self {
+            Record::Free => [0; 4],
+            Record::Cell { top, phase } => [1, 0, top, number_of(phase)],
+            Record::Thread {
+                cell,
+                start,
+                under_way,
+            } => [2, cell, start, under_way as u64],
+            Record::Top { cell } => [3, cell, 0, 0],
+            Record::Table { cell } => [4, cell, 0, 0],
+            Record::Held { cell } => [5, cell, 0, 0],
+            Record::Spare { cell } => [6, cell, 0, 0],
+        }
     }
 }
 
@@ -159,7 +169,7 @@ pub fn put_record(memory: &mut [u64], page: u64, new: Record)
     ensures { memory.new ≡ row_put memory.old page (row (fresh new)) }
 {
     let_go(memory, page);
-    put_numbers(memory, page, 0, &line_of(new));
+    put_numbers(memory, page, 0, &new.beginning());
     if let Record::Cell { .. } = new {
         put_measure(memory, page, Measure::new());
     }

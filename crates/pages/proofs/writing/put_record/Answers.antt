@@ -10,7 +10,7 @@ returns-in-Cell c =
     let m : List ℕ = c.args.memory.now in
     let p : ℕ = c.args.page in
     let b : c.put_numbers.new.memory ≡ row_put m p (blank c.args.new) =
-    c.put_numbers.ensures ∙ ap₂ (λ x ws. numbers_put x p 0 ws) c.let_go.ensures c.line_of.ensures
+    c.put_numbers.ensures ∙ ap₂ (λ x ws. numbers_put x p 0 ws) c.let_go.ensures c.beginning.ensures
     ∙ record_begun m p c.args.new c.requires in
     c.put_measure.ensures ∙ ap (λ x. numbers_put x p 4 (measure_words c.new.result)) b
     ∙ cell_made m p c.in-Cell.top c.in-Cell.phase c.args.new (measure_words c.new.result) c.requires c.in-Cell.is
@@ -20,5 +20,5 @@ pub returns-in_default : goal.returns-in_default
 returns-in_default c =
     let m : List ℕ = c.args.memory.now in
     let p : ℕ = c.args.page in
-    c.put_numbers.ensures ∙ ap₂ (λ x ws. numbers_put x p 0 ws) c.let_go.ensures c.line_of.ensures
+    c.put_numbers.ensures ∙ ap₂ (λ x ws. numbers_put x p 0 ws) c.let_go.ensures c.beginning.ensures
     ∙ record_begun m p c.args.new c.requires ∙ ap (row_put m p) (record_made c.args.new c.in_default.not-Cell)
