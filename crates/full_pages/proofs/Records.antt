@@ -1,51 +1,41 @@
--- Records of pages, and what a write into one makes of it.
-use Rattle.std.proofs.Common.{◌≡◌, ℕ, zero, suc, ◌+◌, ◌-◌, ◌<◌, ◌≤◌, List, [], ◌∷◌, ◌++◌, map, length, get_or, take, drop, set, replicate, None, sym, refl, ap, ◌∙◌, arith}
-use Rattle.std.proofs.lemmas.List.{take-replicate, drop-replicate, replicate-append-replicate, drop_at, length-map}
-use Rattle.model.specs.Pages.{Entry, free, cell, thread, top, table, held, spare, nothing, phase_number}
-use Rattle.full_pages.specs.Layout.{padded, line, row, running_hash}
-use Rattle.full_pages.specs.Packing.{bit, some_number, slot_number}
-use Rattle.full_pages.specs.Flat.{list_put}
-use Rattle.full_pages.specs.Meaning.{shown, beginning, fresh, used, Bare, FitsList, NoCell}
-use Rattle.full_pages.specs.declared.values.Phase.{Phase}
-use Rattle.full_pages.specs.declared.values.Record.{Record}
-use Rattle.full_pages.specs.declared.values.Record.TheVariants as rec
-use Rattle.full_pages.proofs.Lists.{length_padded, padded_nil, padded_is, padded_set, padded_cleared, padded_nth}
+-- Records of pages, where only what a kind of page has a use for is written.
+use Rattle.std.proofs.Common.{◌≡◌, ℕ, suc, ◌+◌, ◌-◌, ◌≤◌, List, [], ◌∷◌, ◌++◌, map, length, take, drop, replicate, sym, refl, ap, ◌∙◌, subst, append_assoc, add-zero, arith, length-append}
+use lib.ListN.{length-replicate}
+use Rattle.std.proofs.lemmas.List.{drop-drop, drop-replicate, length-map, length-take-le, replicate-append-replicate}
+use Rattle.model.specs.Pages.{Entry, free, cell, thread, top, table, held, spare, phase_number}
+use Rattle.pages.specs.Layout.{padded, line, row, running_hash}
+use Rattle.pages.specs.Packing.{bit, some_number, slot_number}
+use Rattle.pages.specs.Flat.{list_put}
+use Rattle.pages.specs.Meaning.{shown, beginning, fresh}
+use Rattle.pages.specs.declared.values.Phase.{Phase}
+use Rattle.pages.specs.declared.values.Record.{Record}
+use Rattle.pages.specs.declared.values.Record.TheVariants as rec
+use Rattle.pages.proofs.Lists.{drop_after, put_after, padded_nil, padded_is}
+use Rattle.pages.proofs.Records.{line_begun, record_made}
+use Rattle.full_pages.specs.Meaning.{used, Bare, FitsList, NoCell}
 
-pub length_line : (k c a b : ℕ) (ws : List ℕ) → length (line k c a b ws) ≡ 2048
-unfolding line
-length_line k c a b ws = simp length_padded
+-- a list put right behind one that was put before
+pub put_next : (m xs ys : List ℕ) (i j : ℕ) → i ≤ length m → j ≡ i + length xs →
+    list_put (list_put m i xs) j ys ≡ list_put m i (xs ++ ys)
+put_next m xs ys i j h q =
+    let d : List ℕ = drop (length xs) (drop i m) in
+    ap (λ n. list_put (list_put m i xs) n ys) (q ∙ ap (λ n. i + n) (sym (add-zero (length xs))))
+    ∙ put_after (take i m) (xs ++ d) ys i (length xs + 0) (length-take-le i m h)
+    ∙ ap (λ x. take i m ++ x) (put_after xs d ys (length xs) 0 refl)
+    ∙ ap (λ x. take i m ++ (xs ++ (ys ++ x))) (drop-drop (length ys) (length xs) (drop i m))
+    ∙ simp (append_assoc, length-append)
 
-pub length_row : (x : Entry) → length (row x) ≡ 2048
-unfolding row
-length_row free = length_line _ _ _ _ _
-length_row (cell x) = length_line _ _ _ _ _
-length_row (thread x) = length_line _ _ _ _ _
-length_row (top x) = length_line _ _ _ _ _
-length_row (table x) = length_line _ _ _ _ _
-length_row (held x) = length_line _ _ _ _ _
-length_row (spare x) = length_line _ _ _ _ _
+-- zeros put over the list make all of it zeros
+padded_cleared : (n k : ℕ) (xs : List ℕ) → length xs ≤ k → k ≤ n → list_put (padded n xs) 0 (replicate k 0) ≡ padded n []
+padded_cleared n k xs h g =
+    let i : ℕ = k - length xs in
+    let e : k ≡ length xs + i = omega arith in
+    ap (λ j. replicate k 0 ++ drop j (padded n xs)) (length-replicate k 0 ∙ e)
+    ∙ ap (λ ys. replicate k 0 ++ drop (length xs + i) ys) (padded_is n xs (omega arith))
+    ∙ ap (λ ys. replicate k 0 ++ ys) (drop_after xs (replicate (n - length xs) 0) (length xs) i refl ∙ drop-replicate i (n - length xs) 0)
+    ∙ replicate-append-replicate k (n - length xs - i) 0 ∙ ap (λ j. replicate j 0) (omega arith) ∙ sym (padded_nil n)
 
--- a free page's record is zeros
-pub zeros_free : replicate 2048 0 ≡ row free
-unfolding row line
-zeros_free = ap (λ (x : List ℕ). 0 ∷ (0 ∷ (0 ∷ (0 ∷ x)))) (sym (padded_nil 2044))
-
--- zeros at the end of a list make no difference
-map_replicate : {A : Type 0} (f : A → ℕ) (n : ℕ) (x : A) → map f (replicate n x) ≡ replicate n (f x)
-map_replicate f zero x = refl
-map_replicate f (suc n) x = ap (λ (ws : List ℕ). f x ∷ ws) (map_replicate f n x)
-
-padded_zeros : (n k : ℕ) → padded n (replicate k 0) ≡ padded n []
-unfolding padded
-padded_zeros n k =
-    ap (take n) (replicate-append-replicate k n 0) ∙ take-replicate n (k + n) 0 (omega arith) ∙ sym (take-replicate n n 0 (omega arith))
-
--- a record with no list that is written anew: with a list of zeros, by four numbers, and with any list
-put_four : (k c k' c' a b n : ℕ) (ws : List ℕ) → ws ≡ replicate n 0 →
-    list_put (line k c 0 0 []) 0 (k' ∷ (c' ∷ (a ∷ (b ∷ [])))) ≡ line k' c' a b ws
-unfolding line
-put_four k c k' c' a b n ws q = ap (λ x. k' ∷ (c' ∷ (a ∷ (b ∷ x)))) (sym (ap (padded 2044) q ∙ padded_zeros 2044 n))
-
+-- a record with no list that is written anew, with any list
 put_line : (k c k' c' a b : ℕ) (ws : List ℕ) → length ws ≤ 2044 →
     list_put (line k c 0 0 []) 0 (k' ∷ (c' ∷ (a ∷ (b ∷ ws)))) ≡ line k' c' a b ws
 unfolding line
@@ -53,26 +43,6 @@ put_line k c k' c' a b ws h =
     ap (λ x. k' ∷ (c' ∷ (a ∷ (b ∷ x))))
     (ap (λ x. ws ++ drop (length ws) x) (padded_nil 2044) ∙ ap (λ x. ws ++ x) (drop-replicate (length ws) 2044 0)
     ∙ sym (padded_is 2044 ws h))
-
--- a record that begins anew, by its first four numbers
-pub few : (r : Record) → length (beginning r) ≡ 4
-few rec.Free = refl
-few (rec.Cell t f) = refl
-few (rec.Thread c a u) = refl
-few (rec.Top c) = refl
-few (rec.Table c) = refl
-few (rec.Held c) = refl
-few (rec.Spare c) = refl
-
-line_begun : (k c : ℕ) (r : Record) → NoCell r → list_put (line k c 0 0 []) 0 (beginning r) ≡ row (fresh r)
-unfolding row
-line_begun k c rec.Free n = put_four k c 0 0 0 0 0 [] refl
-line_begun k c (rec.Cell t f) n = absurd n
-line_begun k c (rec.Thread d a u) n = put_four k c 2 d a (bit u) 17 _ refl
-line_begun k c (rec.Top d) n = put_four k c 3 d 0 0 256 _ (map_replicate some_number 256 None)
-line_begun k c (rec.Table d) n = put_four k c 4 d 0 0 1024 _ (map_replicate slot_number 1024 nothing)
-line_begun k c (rec.Held d) n = put_four k c 5 d 0 0 0 [] refl
-line_begun k c (rec.Spare d) n = put_four k c 6 d 0 0 0 [] refl
 
 -- what is so of each record with no list is so of a bare entry's
 bare_row : (P : List ℕ → Type 0) → ((k c : ℕ) → P (line k c 0 0 [])) → (x : Entry) → Bare x → P (row x)
@@ -86,7 +56,9 @@ bare_row P f (held x) h = f 5 x.cell
 bare_row P f (spare x) h = f 6 x.cell
 
 pub row_begun : (x : Entry) (r : Record) → Bare x → NoCell r → list_put (row x) 0 (beginning r) ≡ row (fresh r)
-row_begun x r h n = bare_row (λ y. list_put y 0 (beginning r) ≡ row (fresh r)) (λ k c. line_begun k c r n) x h
+row_begun x r h n =
+    bare_row (λ y. list_put y 0 (beginning r) ≡ row (fresh r))
+    (λ k c. line_begun k c r ∙ record_made r (λ t f q. subst NoCell q n)) x h
 
 pub cell_begun : (x : Entry) (t : ℕ) (f : Phase) → Bare x →
     list_put (row x) 0 (beginning (rec.Cell t f) ++ running_hash []) ≡ row (fresh (rec.Cell t f))
@@ -122,25 +94,3 @@ row_cleared (top x) h = line_cleared 3 x.cell 0 0 256 (map some_number x.tables)
 row_cleared (table x) h = line_cleared 4 x.cell 0 0 1024 (map slot_number x.slots) (simp length-map h) (omega arith)
 row_cleared (held x) h = line_cleared 5 x.cell 0 0 0 [] (omega arith) (omega arith)
 row_cleared (spare x) h = line_cleared 6 x.cell 0 0 0 [] (omega arith) (omega arith)
-
--- a list put over one that is as long, and one number of it
-pub put_over : (k c a b : ℕ) (ws vs : List ℕ) → length ws ≡ length vs → length ws ≤ 2044 →
-    list_put (line k c a b ws) 4 vs ≡ line k c a b vs
-unfolding line
-put_over k c a b ws vs q h =
-    ap (λ x. k ∷ (c ∷ (a ∷ (b ∷ x))))
-    (ap (λ x. vs ++ drop (length vs) x) (padded_is 2044 ws h)
-    ∙ ap (λ x. vs ++ x) (drop_at ws (replicate (2044 - length ws) 0) (length vs) q)
-    ∙ ap (λ n. vs ++ replicate (2044 - n) 0) q ∙ sym (padded_is 2044 vs (omega arith)))
-
-pub set_listed : (k c a b : ℕ) (ws : List ℕ) (j v : ℕ) → j < length ws → set (line k c a b ws) (4 + j) v ≡ line k c a b (set ws j v)
-unfolding line
-set_listed k c a b ws j v h =
-    let e : 4 + j ≡ suc (suc (suc (suc j))) = omega arith in
-    ap (λ i. set (k ∷ (c ∷ (a ∷ (b ∷ padded 2044 ws)))) i v) e ∙ ap (λ x. k ∷ (c ∷ (a ∷ (b ∷ x)))) (padded_set 2044 ws j v h)
-
-pub listed_nth : (k c a b : ℕ) (ws : List ℕ) (j : ℕ) → j < 2044 → get_or (line k c a b ws) (4 + j) 0 ≡ get_or ws j 0
-unfolding line
-listed_nth k c a b ws j h =
-    let e : 4 + j ≡ suc (suc (suc (suc j))) = omega arith in
-    ap (λ i. get_or (k ∷ (c ∷ (a ∷ (b ∷ padded 2044 ws)))) i 0) e ∙ padded_nth 2044 ws j h

@@ -1,6 +1,6 @@
 -- Reads and writes of rows that stand one after another, whatever stands behind them.
-use Rattle.std.proofs.Common.{◌≡◌, ℕ, zero, suc, ◌+◌, ◌*◌, ◌<◌, ◌≤◌, List, [], ◌∷◌, ◌++◌, length, get_or, take, drop, set, sym, ap, ◌∙◌, append_assoc, append-nil, add-zero, suc-mul, zero-mul, arith, length-append}
-use Rattle.std.proofs.lemmas.List.{take_all}
+use Rattle.std.proofs.Common.{◌≡◌, ℕ, zero, suc, ◌+◌, ◌*◌, ◌<◌, ◌≤◌, List, [], ◌∷◌, ◌++◌, length, get_or, take, drop, set, sym, ap, ◌∙◌, append_assoc, append-nil, add-zero, suc-mul, suc-add, zero-add, zero-mul, arith, length-append}
+use Rattle.std.proofs.lemmas.List.{take_all, get_or_append_left, get_or-append-add, set-append_left}
 use Rattle.std.proofs.ByRecursion.{All-get_or}
 use Rattle.pages.specs.Flat.{flat, Wide, list_put, page_in, page_put}
 use Rattle.pages.specs.Promises.{PagesWritten}
@@ -61,3 +61,29 @@ pages_written = record {
   read = page_read;
   put = page_written;
 }
+
+-- One number of a row, read and written.
+set_after : (xs ys : List ℕ) (n v : ℕ) → set (xs ++ ys) (length xs + n) v ≡ xs ++ set ys n v
+set_after [] ys n v = ap (λ i. set ys i v) (zero-add n)
+set_after (x ∷ xs) ys n v = ap (λ i. set (x ∷ (xs ++ ys)) i v) (suc-add (length xs) n) ∙ ap (λ z. x ∷ z) (set_after xs ys n v)
+
+pub flat_nth : (w : ℕ) (xs : List (List ℕ)) (p n : ℕ) → Wide w xs → p < length xs → n < w →
+    get_or (flat xs) (p * w + n) 0 ≡ get_or (get_or xs p []) n 0
+unfolding flat
+flat_nth w [] p n a h g = absurd (omega arith)
+flat_nth w (x ∷ xs) zero n a h g =
+    ap (λ i. get_or (x ++ flat xs) i 0) (omega (arith, zero-mul w)) ∙ get_or_append_left x (flat xs) 0 n (omega (arith, g, a.0))
+flat_nth w (x ∷ xs) (suc p) n a h g =
+    let i : suc p * w + n ≡ length x + (p * w + n) = omega (arith, suc-mul p w, a.0) in
+    ap (λ j. get_or (x ++ flat xs) j 0) i ∙ get_or-append-add x (flat xs) (p * w + n) 0 ∙ flat_nth w xs p n a.1 (omega arith) g
+
+pub flat_set : (w : ℕ) (xs : List (List ℕ)) (p n v : ℕ) → Wide w xs → p < length xs → n < w →
+    set (flat xs) (p * w + n) v ≡ flat (set xs p (set (get_or xs p []) n v))
+unfolding flat
+flat_set w [] p n v a h g = absurd (omega arith)
+flat_set w (x ∷ xs) zero n v a h g =
+    ap (λ i. set (x ++ flat xs) i v) (omega (arith, zero-mul w)) ∙ set-append_left x (flat xs) n v (omega (arith, g, a.0))
+flat_set w (x ∷ xs) (suc p) n v a h g =
+    let i : suc p * w + n ≡ length x + (p * w + n) = omega (arith, suc-mul p w, a.0) in
+    ap (λ j. set (x ++ flat xs) j v) i ∙ set_after x (flat xs) (p * w + n) v
+    ∙ ap (λ z. x ++ z) (flat_set w xs p n v a.1 (omega arith) g)

@@ -47,7 +47,7 @@ take_after (x ∷ xs) ys k a q =
     let e : k + a ≡ suc (length xs + a) = omega arith in
     ap (λ n. take n (x ∷ (xs ++ ys))) e ∙ ap (λ z. x ∷ z) (take_after xs ys (length xs) a refl)
 
-drop_after : (xs ys : List ℕ) (k a : ℕ) → length xs ≡ k → drop (k + a) (xs ++ ys) ≡ drop a ys
+pub drop_after : (xs ys : List ℕ) (k a : ℕ) → length xs ≡ k → drop (k + a) (xs ++ ys) ≡ drop a ys
 drop_after xs ys k a q = sym (drop-drop a k (xs ++ ys)) ∙ ap (drop a) (drop_at xs ys k q)
 
 pub put_after : (xs ys ws : List ℕ) (k a : ℕ) → length xs ≡ k → list_put (xs ++ ys) (k + a) ws ≡ xs ++ list_put ys a ws

@@ -31,10 +31,10 @@ pub zeros_free : replicate 2048 0 ≡ row free
 unfolding row line
 zeros_free = ap (λ (x : List ℕ). 0 ∷ (0 ∷ (0 ∷ (0 ∷ x)))) (sym (padded_nil 2044))
 
--- four numbers put into it
-pub put_four : (k c a b : ℕ) → list_put (row free) 0 (k ∷ (c ∷ (a ∷ (b ∷ [])))) ≡ line k c a b []
-unfolding row line
-put_four k c a b = refl
+-- four numbers put into a record with no list
+put_four : (k c k' c' a b : ℕ) → list_put (line k c 0 0 []) 0 (k' ∷ (c' ∷ (a ∷ (b ∷ [])))) ≡ line k' c' a b []
+unfolding line
+put_four k c k' c' a b = refl
 
 -- a list put behind them
 pub put_list : (k c a b : ℕ) (ws : List ℕ) → length ws ≤ 2044 → list_put (line k c a b []) 4 ws ≡ line k c a b ws
@@ -68,16 +68,20 @@ blank (rec.Table c) = line 4 c 0 0 []
 blank (rec.Held c) = line 5 c 0 0 []
 blank (rec.Spare c) = line 6 c 0 0 []
 
-begun : (r : Record) → list_put (row free) 0 (beginning r) ≡ blank r
-begun rec.Free = put_four _ _ _ _
-begun (rec.Cell t f) = put_four _ _ _ _
-begun (rec.Thread c a u) = put_four _ _ _ _
-begun (rec.Top c) = put_four _ _ _ _
-begun (rec.Table c) = put_four _ _ _ _
-begun (rec.Held c) = put_four _ _ _ _
-begun (rec.Spare c) = put_four _ _ _ _
+pub line_begun : (k c : ℕ) (r : Record) → list_put (line k c 0 0 []) 0 (beginning r) ≡ blank r
+line_begun k c rec.Free = put_four _ _ _ _ _ _
+line_begun k c (rec.Cell t f) = put_four _ _ _ _ _ _
+line_begun k c (rec.Thread d a u) = put_four _ _ _ _ _ _
+line_begun k c (rec.Top d) = put_four _ _ _ _ _ _
+line_begun k c (rec.Table d) = put_four _ _ _ _ _ _
+line_begun k c (rec.Held d) = put_four _ _ _ _ _ _
+line_begun k c (rec.Spare d) = put_four _ _ _ _ _ _
 
-few : (r : Record) → length (beginning r) ≡ 4
+free_begun : (r : Record) → list_put (row free) 0 (beginning r) ≡ blank r
+unfolding row
+free_begun r = line_begun 0 0 r
+
+pub few : (r : Record) → length (beginning r) ≡ 4
 few rec.Free = refl
 few (rec.Cell t f) = refl
 few (rec.Thread c a u) = refl
@@ -90,7 +94,7 @@ pub record_begun : (m : List ℕ) (p : ℕ) (r : Record) → HasPage m p →
     numbers_put (row_put m p (row free)) p 0 (beginning r) ≡ row_put m p (blank r)
 record_begun m p r h =
     put_inside m (row free) (beginning r) (256 + p * 2048) 0 (omega arith) (omega (arith, few r, length_row free))
-    ∙ ap (row_put m p) (begun r)
+    ∙ ap (row_put m p) (free_begun r)
 
 pub record_made : (r : Record) → ((t : ℕ) (f : Phase) → r ≡ rec.Cell t f → ⊥) → blank r ≡ row (fresh r)
 unfolding row
