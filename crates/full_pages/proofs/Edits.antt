@@ -1,5 +1,5 @@
--- Each edit of a state is a write of its memory, and what is read is right: what differs from `pages`.
-use Rattle.std.proofs.Common.{◌≡◌, ℕ, ◌+◌, ◌*◌, ◌<◌, ◌≤◌, [], ◌++◌, length, replicate, ap, ◌∙◌, arith}
+-- Each edit of a state is a write of its memory.
+use Rattle.std.proofs.Common.{◌≡◌, ℕ, ◌+◌, ◌*◌, ◌<◌, [], ◌++◌, length, replicate, ap, ◌∙◌, arith}
 use lib.ListN.{length-replicate}
 use Rattle.sha256.specs.Measures.{Measures}
 use Rattle.sha256.specs.declared.Measure.{Measure}
@@ -17,9 +17,9 @@ use Rattle.pages.proofs.Records.{few}
 use Rattle.pages.proofs.Hashes.{measure_is}
 use Rattle.pages.proofs.Memory.{entry_put, length_encode}
 use Rattle.pages.proofs.Edits as pages
-use Rattle.pages.proofs.Seen as seen
-use Rattle.full_pages.specs.Meaning.{Sized, begun, used, cleared, Bare, FitsList, NoCell}
-use Rattle.full_pages.specs.Promises.{EditsWritten, ReadsRight}
+use Rattle.pages.proofs.Seen.{reads_right}
+use Rattle.full_pages.specs.Meaning.{begun, used, cleared, Bare, FitsList, NoCell}
+use Rattle.full_pages.specs.Promises.{EditsWritten}
 use Rattle.full_pages.proofs.Records.{put_next, used_few, row_begun, cell_begun, row_cleared}
 
 become : (l : Limits) (s : State) (p : ℕ) (x : Record) → p < length s.entries → Bare (entry s p) → NoCell x →
@@ -41,17 +41,9 @@ let_go : (l : Limits) (s : State) (p : ℕ) → p < length s.entries → FitsLis
     cleared (encode l s) p ≡ encode l (apply s (state.put_entry p model.free))
 let_go l s p h g =
     let n : ℕ = used (shown (entry s p)) in
-    ap (λ x. numbers_put (encode l s) p 0 (replicate (used x) 0)) (seen.reads_right.shows l s p h)
+    ap (λ x. numbers_put (encode l s) p 0 (replicate (used x) 0)) (reads_right.shows l s p h)
     ∙ entry_put l s p 0 (replicate n 0) model.free h (omega (arith, length-replicate {A = ℕ} n 0, used_few (shown (entry s p))))
     (row_cleared (entry s p) g)
 
-sized : (l : Limits) (s : State) → length s.entries ≡ l.pages → l.pages ≤ 4096 → l.opens ≤ 1048576 → Sized (encode l s)
-sized l s q h g =
-    let it = seen.reads_right.sized l s q h in
-    record { long = it.long; few = it.few; few_open = omega (arith, seen.reads_right.opens l s, g) }
-
 pub edits_written : EditsWritten
 edits_written = record { others = pages.edits_written; become = become; new_cell = new_cell; let_go = let_go }
-
-pub reads_right : ReadsRight
-reads_right = record { others = seen.reads_right; sized = sized }

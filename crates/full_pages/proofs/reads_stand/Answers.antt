@@ -1,4 +1,4 @@
-use Rattle.full_pages.proofs.Edits.{reads_right}
+use Rattle.full_pages.proofs.Seen.{reads_right}
 use Rattle.full_pages.proofs.reads_stand.Goals as goal
 
 pub returns : goal.returns
