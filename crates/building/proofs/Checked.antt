@@ -7,7 +7,7 @@ use Rattle.model.specs.Pages as model
 use Rattle.model.specs.Pages.{Cell, cell, is_cell, is_in, stopped, sealed, building, table_at, slot_at}
 use Rattle.model.specs.State.{Limits, State, entry}
 use Rattle.model.specs.Refusals.{failing, system_checks, cell_there, open_there, vacant, in_range}
-use Rattle.full_pages.specs.Layout.{encode}
+use Rattle.pages.specs.Layout.{encode}
 use Rattle.lookups.specs.Lookups as look
 use Rattle.lookups.proofs.Checking.{check}
 use Rattle.lookups.proofs.Right.{Known, both_some, not_stopped, its_cell, live_cell, there_right, open_right, freed_right, cells_right, building_right, sealed_right}

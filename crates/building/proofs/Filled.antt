@@ -2,8 +2,8 @@
 use Rattle.std.proofs.Common.{◌≡◌, ℕ, ◌*◌, true, List, length, get_or, take, IfSome, Some, None, Option, ap, ◌∙◌, arith, ltb-true}
 use lib.ListN.{length-replicate}
 use Rattle.std.proofs.lemmas.List.{drop_at, take_at, length-take-le}
-use Rattle.full_pages.specs.Flat.{HasWords, page_in, page_put}
-use Rattle.full_pages.proofs.Lists.{length_page}
+use Rattle.pages.specs.Flat.{HasWords, page_in, page_put}
+use Rattle.pages.proofs.Lists.{length_page}
 use Rattle.building.specs.Checks.{source_there}
 use Rattle.building.specs.Made.{source_words}
 

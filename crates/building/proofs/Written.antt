@@ -18,16 +18,17 @@ use Rattle.model.specs.Monitor.{system_edits, copied, becomes_held, becomes_tabl
 use Rattle.model.proofs.Lists.{get_d_any}
 use Rattle.model.proofs.Effects.{passes}
 use Rattle.model.proofs.SameBuilt.{copied_long}
-use Rattle.full_pages.specs.Flat.{flat, page_put}
-use Rattle.full_pages.specs.Layout.{encode}
-use Rattle.full_pages.specs.Rows as rows
-use Rattle.full_pages.specs.Rows.{numbers_put}
-use Rattle.full_pages.specs.Meaning.{begun, Bare, measure_words, measure_in}
-use Rattle.full_pages.specs.declared.values.Phase.TheVariants.{Building}
-use Rattle.full_pages.specs.declared.values.Record.TheVariants as rec
+use Rattle.pages.specs.Flat.{flat, page_put}
+use Rattle.pages.specs.Layout.{encode}
+use Rattle.pages.specs.Rows as rows
+use Rattle.full_pages.specs.Meaning.{begun, Bare}
+use Rattle.pages.specs.Rows.{numbers_put}
+use Rattle.pages.specs.Meaning.{measure_words, measure_in}
+use Rattle.pages.specs.declared.values.Phase.TheVariants.{Building}
+use Rattle.pages.specs.declared.values.Record.TheVariants as rec
 use Rattle.full_pages.proofs.Edits.{edits_written}
-use Rattle.full_pages.proofs.Flats.{pages_written}
-use Rattle.full_pages.proofs.Seen.{reads_right}
+use Rattle.pages.proofs.Flats.{pages_written}
+use Rattle.pages.proofs.Seen.{reads_right}
 use Rattle.lookups.specs.Lookups as look
 use Rattle.lookups.proofs.Right.{Known, its_cell, live_cell, its_top, its_table, table_fits, had, not_stopped, vacant_by_right}
 use Rattle.lookups.proofs.Edited.{the_free, bare_apart, contents_wide, opens_wide, edited, long_edited, other, tables_stay}
@@ -83,7 +84,7 @@ module _ (l : Limits) (s : State) (k : Known l s) where
         let x : Entry = thread (record { cell = c; start = a; under_way = false; registers = state.no_registers }) in
         let w : Measure = more_measured (measure_in (encode l s) c) (two_words 2 a) in
         ap (λ m. numbers_put m c 4 (measure_words w)) (edits_written.become l s p (rec.Thread c a false) h b tt)
-        ∙ edits_written.measure l (edited s p x) c (thread_from a) y w
+        ∙ edits_written.others.measure l (edited s p x) c (thread_from a) y w
         (other s p x c (cell y) e (bare_apart s p c (cell y) b e (λ z. z)))
         (omega (arith, low-cell, long_edited s p x)) (measures (two_words 2 a) refl)
 
@@ -119,7 +120,7 @@ module _ (l : Limits) (s : State) (k : Known l s) where
         let x : Entry = table (record { cell = c; slots = replicate 1024 nothing }) in
         let fits = subst (EntryFits l) its.1 (k.invariant.entries_fit y.top) in
         ap (λ m. rows.table_put m y.top i p) (edits_written.become l s p (rec.Table c) h b tt)
-        ∙ edits_written.put_table l (edited s p x) c i p y its.0 (other s p x c (cell y) e not_cell)
+        ∙ edits_written.others.put_table l (edited s p x) c i p y its.0 (other s p x c (cell y) e not_cell)
         (other s p x y.top (top its.0) its.1 not_top) (omega (arith, top_low, long_edited s p x))
         (omega (arith, g, fits.0, k.sized.places_are)) g
         ∙ ap (λ n. encode l (apply_all s (put_entry p (table (record { cell = c; slots = replicate n nothing })) ∷ put_table c i p ∷ [])))
@@ -135,7 +136,7 @@ module _ (l : Limits) (s : State) (k : Known l s) where
         let fits = subst (EntryFits l) t.1 (k.invariant.entries_fit q) in
         let low_table : q < length s.entries = omega (arith, k.invariant.entries_long, table_fits l s k c y e live w.table q f) in
         ap (λ m. rows.slot_put m q w.slot (closed p w.write w.run)) (edits_written.become l s p (rec.Held c) h b tt)
-        ∙ edits_written.put_slot l (edited s p x) c w (closed p w.write w.run) q t.0
+        ∙ edits_written.others.put_slot l (edited s p x) c w (closed p w.write w.run) q t.0
         (tables_stay s p x c w.table y its.0 e its.1 not_cell not_top ∙ f)
         (other s p x q (table t.0) t.1 (bare_apart s p q (table t.0) b t.1 (λ z. z)))
         (omega (arith, low_table, long_edited s p x)) (omega (arith, g, fits.0, k.sized.slots_are)) g
@@ -170,7 +171,7 @@ module _ (l : Limits) (s : State) (k : Known l s) where
       let f = its_place c w q.0 q.1.0 q.1.1.0 i j in
       let t = its_table l s k c y.0 y.1 live w.table _ f in
       let fits = subst (EntryFits l) t.1 (k.invariant.entries_fit _) in
-      edits_written.put_slot l s c w (opened o w.write) _ t.0 f t.1
+      edits_written.others.put_slot l s c w (opened o w.write) _ t.0 f t.1
       (omega (arith, k.invariant.entries_long, table_fits l s k c y.0 y.1 live w.table _ f))
       (omega (arith, j, fits.0, k.sized.slots_are)) j
 
@@ -218,8 +219,8 @@ module _ (l : Limits) (s : State) (k : Known l s) where
       (measure_words (made.held_measure (encode l s) c w z))) (source_right o q.1.1.1.0)
       ∙ ap (λ m. numbers_put m c 4 (measure_words (more_measured first ws)))
       (held_made c y.0 y.1 live p (low p q.1.1.1.1.0) b w _ j f
-      ∙ edits_written.write_page l (apply one (put_slot c w (closed p w.write w.run))) p ws)
-      ∙ edits_written.measure l held_state c (page_at w ws) y.0 (more_measured first ws)
+      ∙ edits_written.others.write_page l (apply one (put_slot c w (closed p w.write w.run))) p ws)
+      ∙ edits_written.others.measure l held_state c (page_at w ws) y.0 (more_measured first ws)
       (slot_other one c w (closed p w.write w.run) _ c (cell y.0)
       (tables_stay s p x c w.table y.0 t.0 y.1 t.1 (bare_apart s p c _ b y.1 (λ z. z)) (bare_apart s p _ _ b t.1 (λ z. z)) ∙ f)
       (other s p x c _ y.1 (bare_apart s p c _ b y.1 (λ z. z)))

@@ -9,11 +9,12 @@ use Rattle.sha256.specs.declared.Measure.{Measure}
 use Rattle.model.specs.Calls.{Place}
 use Rattle.model.specs.Measured.{place_word}
 use Rattle.model.specs.Pages.{opened, closed}
-use Rattle.full_pages.specs.Flat.{page_in, page_put}
-use Rattle.full_pages.specs.Rows.{slot_put, table_put, numbers_put}
-use Rattle.full_pages.specs.Meaning.{begun, measure_words, measure_in}
-use Rattle.full_pages.specs.declared.values.Phase.TheVariants.{Building}
-use Rattle.full_pages.specs.declared.values.Record.TheVariants.{Cell, Thread, Top, Table, Held, Spare}
+use Rattle.pages.specs.Flat.{page_in, page_put}
+use Rattle.pages.specs.Rows.{slot_put, table_put, numbers_put}
+use Rattle.full_pages.specs.Meaning.{begun}
+use Rattle.pages.specs.Meaning.{measure_words, measure_in}
+use Rattle.pages.specs.declared.values.Phase.TheVariants.{Building}
+use Rattle.pages.specs.declared.values.Record.TheVariants.{Cell, Thread, Top, Table, Held, Spare}
 use Rattle.lookups.specs.Lookups.{cell_of, vacant_by}
 
 -- the table that a place is in, where there is one

@@ -1,13 +1,13 @@
 // Cells, their threads, and spare pages for them.
 ghost use Rattle.std.specs.Prelude.{◌<◌, slice_index, slice_index_or};
-ghost use Rattle.full_pages.specs.Rows.{Sized};
+ghost use Rattle.full_pages.specs.Meaning.{Sized};
 ghost use Rattle.lookups.specs.Outcomes.{Checked, Taken};
 ghost use Rattle.building.specs.Checks.{make_checks, start_checks, give_checks};
 ghost use Rattle.building.specs.Made.{made_cell, made_thread, given};
 
 use crate::free::free_page;
 use answers::Reason;
-use full_pages::{Phase, Record};
+use pages::{Phase, Record};
 use sha256::Measure;
 
 // Whether a cell may be made of two pages.
@@ -16,7 +16,7 @@ fn may_make(memory: &[u64], first: u64, top: u64) -> Result<(), Reason>
     ensures { Checked (make_checks memory.now first top) (λ _. (first < slice_index memory.now 0) × (top < slice_index_or
         memory.now 0 0)) result }
 {
-    let pages = full_pages::pages(memory);
+    let pages = pages::pages(memory);
     if first >= pages || top >= pages || first == top {
         return Err(Reason::NotThere);
     }
@@ -44,7 +44,7 @@ pub fn new_cell(memory: &mut [u64], first: u64, top: u64) -> Result<(), Reason>
             phase: Phase::Building,
         },
     );
-    full_pages::put_measure(memory, first, Measure::new());
+    pages::put_measure(memory, first, Measure::new());
     full_pages::put_record(memory, top, Record::Top { cell: first });
     Ok(())
 }
@@ -72,7 +72,7 @@ pub fn new_thread(memory: &mut [u64], page: u64, cell: u64, start: u32) -> Resul
     ensures { Taken (start_checks memory.old page cell) memory.old (made_thread memory.old page cell start) memory.new result }
 {
     may_start(memory, page, cell)?;
-    let measure = full_pages::measure_at(memory, cell).two_words(2, start);
+    let measure = pages::measure_at(memory, cell).two_words(2, start);
     full_pages::put_record(
         memory,
         page,
@@ -82,7 +82,7 @@ pub fn new_thread(memory: &mut [u64], page: u64, cell: u64, start: u32) -> Resul
             under_way: false,
         },
     );
-    full_pages::put_measure(memory, cell, measure);
+    pages::put_measure(memory, cell, measure);
     Ok(())
 }
 

@@ -1,8 +1,9 @@
 // Pages that a cell holds.
 ghost use Rattle.std.specs.Prelude.{◌≡◌, ◌*◌, ◌<◌, true, length, IfSome, slice_index};
 ghost use Rattle.fields.specs.Shapes.{place_of};
-ghost use Rattle.full_pages.specs.Rows.{Sized, HasPage};
-ghost use Rattle.full_pages.specs.Flat.{HasWords, page_put};
+ghost use Rattle.pages.specs.Rows.{HasPage};
+ghost use Rattle.full_pages.specs.Meaning.{Sized};
+ghost use Rattle.pages.specs.Flat.{HasWords, page_put};
 ghost use Rattle.lookups.specs.Outcomes.{Checked, Taken};
 ghost use Rattle.building.specs.Checks.{hold_checks, source_there};
 ghost use Rattle.building.specs.Made.{table_for, made_held, source_words, held_measure, held_memory, held_pages};
@@ -10,7 +11,7 @@ ghost use Rattle.building.specs.Made.{table_for, made_held, source_words, held_m
 use crate::free::free_page;
 use answers::Reason;
 use fields::Place;
-use full_pages::{Phase, Record, Slot};
+use pages::{Phase, Record, Slot};
 use lookups::InRange;
 use sha256::Measure;
 
@@ -19,7 +20,7 @@ fn may_copy(memory: &[u64], source: Option<u64>) -> bool
     requires { Sized memory.now }
     ensures { result ≡ source_there memory.now source }
 {
-    source.is_none_or(|open| open < full_pages::opens(memory))
+    source.is_none_or(|open| open < pages::opens(memory))
 }
 
 // Whether a cell may hold a page at a place; hands on the table that the place is in.
@@ -58,7 +59,7 @@ pub fn become_held(memory: &mut [u64], page: u64, cell: u64, table: u64, place: 
     ensures { memory.new ≡ made_held memory.old page cell table (place_of place) }
 {
     full_pages::put_record(memory, page, Record::Held { cell });
-    full_pages::put_slot(
+    pages::put_slot(
         memory,
         table,
         place.slot,
@@ -76,8 +77,8 @@ fn fill(closed: &mut [u32], page: u64, open: &[u32], source: Option<u64>)
     ensures { closed.new ≡ page_put closed.old page (source_words «open».now source) }
 {
     match source {
-        None => full_pages::zero_page(closed, page),
-        Some(source) => full_pages::copy_page(closed, page, open, source),
+        None => pages::zero_page(closed, page),
+        Some(source) => pages::copy_page(closed, page, open, source),
     }
 }
 
@@ -86,8 +87,8 @@ fn measured(memory: &[u64], cell: u64, at: InRange, words: &[u32]) -> Measure
     requires { (HasPage memory.now cell) × (length words.now ≡ 1024) }
     ensures { result ≡ held_measure memory.now cell (place_of at.place) words.now }
 {
-    full_pages::measure_at(memory, cell)
-        .two_words(4, full_pages::place_word(at.place))
+    pages::measure_at(memory, cell)
+        .two_words(4, pages::place_word(at.place))
         .page(words)
 }
 
@@ -110,8 +111,8 @@ pub fn hold(
 {
     let table = may_hold(memory, page, cell, at, source)?;
     fill(closed, page, open, source);
-    let measure = measured(memory, cell, at, full_pages::page_at(closed, page));
+    let measure = measured(memory, cell, at, pages::page_at(closed, page));
     become_held(memory, page, cell, table, at.place);
-    full_pages::put_measure(memory, cell, measure);
+    pages::put_measure(memory, cell, measure);
     Ok(())
 }

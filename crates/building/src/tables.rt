@@ -1,7 +1,8 @@
 // Tables, and open pages that a cell is shown.
 ghost use Rattle.std.specs.Prelude.{◌≡◌, ◌<◌, slice_index};
 ghost use Rattle.fields.specs.Shapes.{place_of};
-ghost use Rattle.full_pages.specs.Rows.{Sized, HasPage};
+ghost use Rattle.pages.specs.Rows.{HasPage};
+ghost use Rattle.full_pages.specs.Meaning.{Sized};
 ghost use Rattle.lookups.specs.Lookups.{cell_of, top_of};
 ghost use Rattle.lookups.specs.Outcomes.{Checked, Taken};
 ghost use Rattle.building.specs.Checks.{add_checks, show_checks};
@@ -9,7 +10,7 @@ ghost use Rattle.building.specs.Made.{made_table, table_for, shown};
 
 use crate::free::free_page;
 use answers::Reason;
-use full_pages::{Phase, Record, Slot};
+use pages::{Phase, Record, Slot};
 use lookups::InRange;
 
 // Whether a page may be a table of a cell, at a place of its top table; hands on the top table's page.
@@ -44,7 +45,7 @@ pub fn become_table(memory: &mut [u64], page: u64, cell: u64, top: u64, index: u
     ensures { memory.new ≡ made_table memory.old page cell top index }
 {
     full_pages::put_record(memory, page, Record::Table { cell });
-    full_pages::put_table(memory, top, index, page);
+    pages::put_table(memory, top, index, page);
 }
 
 // Makes a page a table of a cell.
@@ -74,7 +75,7 @@ fn may_show(memory: &[u64], open: u64, cell: u64, at: InRange) -> Result<u64, Re
     let Some(table) = lookups::vacant(memory, cell.top, at) else {
         return Err(Reason::NotVacant);
     };
-    if open >= full_pages::opens(memory) {
+    if open >= pages::opens(memory) {
         return Err(Reason::NotThere);
     }
     Ok(table)
@@ -87,7 +88,7 @@ pub fn show(memory: &mut [u64], open: u64, cell: u64, at: InRange) -> Result<(),
         (shown memory.old «open» cell (place_of at.place)) memory.new result }
 {
     let table = may_show(memory, open, cell, at)?;
-    full_pages::put_slot(
+    pages::put_slot(
         memory,
         table,
         at.place.slot,

@@ -7,10 +7,10 @@ use Rattle.model.specs.Pages as model
 use Rattle.model.specs.Pages.{Slot, nothing, closed, opened, Phase, phase_number, Entry, free, cell, thread, top, table, held, spare, kind, part_of}
 use Rattle.model.specs.State.{Limits, State, Sized, entry, word, all_words}
 use Rattle.model.specs.Invariant.{SlotFits, EntryFits}
-use Rattle.full_pages.specs.Flat.{flat}
-use Rattle.full_pages.specs.Packing.{bit, slot_number, some_number}
-use Rattle.full_pages.specs.Layout.{padded, running_hash, line, row, rows, header, tail, encode}
-use Rattle.full_pages.proofs.Hashes.{words_hashed}
+use Rattle.pages.specs.Flat.{flat}
+use Rattle.pages.specs.Packing.{bit, slot_number, some_number}
+use Rattle.pages.specs.Layout.{padded, running_hash, line, row, rows, header, tail, encode}
+use Rattle.pages.proofs.Hashes.{words_hashed}
 use Rattle.lookups.proofs.Right.{Known}
 
 abbrev Fits : ℕ → Type 0

@@ -5,7 +5,7 @@ use Rattle.answers.specs.declared.reason.Reason.{Reason}
 use Rattle.model.specs.Calls.{SystemCall, CellCall, Call, by_system, by_cell, garbled}
 use Rattle.model.specs.Answers.{Answer, refused, done, enters, told}
 use Rattle.model.specs.Refusals.{Check, failing}
-use Rattle.full_pages.specs.Rows.{running_in, running_put}
+use Rattle.pages.specs.Rows.{running_in, running_put}
 use Rattle.lookups.specs.Lookups.{thread_of, caller, caller_of}
 use Rattle.lookups.specs.Outcomes.{Taken}
 use Rattle.lookups.specs.declared.Caller.{Caller}

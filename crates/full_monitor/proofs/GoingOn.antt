@@ -11,8 +11,8 @@ use Rattle.model.proofs.InvHolds.{invariant, invariant_holds, registers_good, ra
 use Rattle.model.proofs.EventsMade.{worlds_are_events}
 use Rattle.model.proofs.EventsKeep.{all_paged}
 use Rattle.answers.specs.Table.{write_answer}
-use Rattle.full_pages.specs.Flat.{flat}
-use Rattle.full_pages.specs.Layout.{encode}
+use Rattle.pages.specs.Flat.{flat}
+use Rattle.pages.specs.Layout.{encode}
 use Rattle.lookups.proofs.Right.{Known}
 use Rattle.full_monitor.specs.Promises.{Whole, run_leaves, act_leaves, run_leaves_pages, act_leaves_pages, run_tells, GoesOn}
 use Rattle.full_monitor.proofs.Right.{known, says_right, leaves_right, pages_right}

@@ -5,10 +5,10 @@ use Rattle.model.specs.State.{Limits, State}
 use Rattle.model.specs.Monitor.{after}
 use Rattle.model.specs.Events.{Event, called, wrote, wrote_open, event, state, AllPaged}
 use Rattle.model.proofs.Answered as model
-use Rattle.full_pages.specs.Flat.{flat}
-use Rattle.full_pages.specs.Layout.{encode}
-use Rattle.full_pages.proofs.Edits.{edits_written}
-use Rattle.full_pages.proofs.Memory.{length_encode}
+use Rattle.pages.specs.Flat.{flat}
+use Rattle.pages.specs.Layout.{encode}
+use Rattle.pages.proofs.Edits.{edits_written}
+use Rattle.pages.proofs.Memory.{length_encode}
 use Rattle.full_monitor.specs.Program.{says, leaves, leaves_pages}
 use Rattle.full_monitor.specs.Promises.{Whole, memory_after, memory, Right, Keeps, RefusalKeeps, ErrorKeeps, EnoughMemory}
 use Rattle.fields.specs.Bytes.{Wide}

@@ -8,8 +8,8 @@ use Rattle.model.specs.Monitor.{answer_or, edits_or, changed}
 use Rattle.model.specs.Events.{Event, state, AllPaged}
 use Rattle.model.proofs.EventsKeep.{events_invariant, events_blocks}
 use Rattle.fields.specs.declared.values.Unwritten.{Unwritten}
-use Rattle.full_pages.specs.Flat.{flat}
-use Rattle.full_pages.specs.Layout.{encode}
+use Rattle.pages.specs.Flat.{flat}
+use Rattle.pages.specs.Layout.{encode}
 use Rattle.lookups.proofs.Right.{Known}
 use Rattle.full_monitor.specs.Program.{says, leaves, leaves_pages}
 use Rattle.full_monitor.specs.Called.{Runs, Refines}

@@ -14,8 +14,8 @@ use Rattle.model.specs.Monitor as model
 use Rattle.model.specs.Monitor.{cell_edits, caller_edits, edits_or, changed, reply}
 use Rattle.model.proofs.Effects.{passes}
 use Rattle.model.proofs.ConfRunning.{Runs, runs_now}
-use Rattle.full_pages.specs.Flat.{flat}
-use Rattle.full_pages.specs.Layout.{encode}
+use Rattle.pages.specs.Flat.{flat}
+use Rattle.pages.specs.Layout.{encode}
 use Rattle.lookups.specs.Lookups as look
 use Rattle.lookups.proofs.Checking.{check}
 use Rattle.lookups.proofs.Right.{Known, the_first, shown_caller, caller_right}

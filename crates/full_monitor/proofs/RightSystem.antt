@@ -11,10 +11,10 @@ use Rattle.model.specs.Refusals.{failing, checks, place, refusal}
 use Rattle.model.specs.Monitor as model
 use Rattle.model.specs.Monitor.{system_edits, reply, changed, answer_or, edits_or}
 use Rattle.model.proofs.Effects.{passes}
-use Rattle.full_pages.specs.Flat.{flat}
-use Rattle.full_pages.specs.Layout.{encode}
-use Rattle.full_pages.proofs.Edits.{edits_written}
-use Rattle.full_pages.proofs.Seen.{reads_right}
+use Rattle.pages.specs.Flat.{flat}
+use Rattle.pages.specs.Layout.{encode}
+use Rattle.pages.proofs.Edits.{edits_written}
+use Rattle.pages.proofs.Seen.{reads_right}
 use Rattle.lookups.proofs.Checking.{check}
 use Rattle.lookups.proofs.Right.{Known}
 use Rattle.building.proofs.Checked.{make_checked, start_checked, add_checked, hold_checked, give_checked, show_checked}

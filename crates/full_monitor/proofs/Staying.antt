@@ -8,11 +8,11 @@ use Rattle.model.specs.Changes.{Untouched}
 use Rattle.model.proofs.Reached.{played}
 use Rattle.model.proofs.Confidentiality.{reachable_more}
 use Rattle.model.proofs.Integrity.{integrity_of_calls, integrity_of_runs, integrity_over_runs}
-use Rattle.full_pages.specs.Flat.{flat, page_in}
-use Rattle.full_pages.specs.Layout.{row, encode}
-use Rattle.full_pages.specs.Rows.{numbers_at}
-use Rattle.full_pages.proofs.Flats.{pages_written}
-use Rattle.full_pages.proofs.Memory.{entry_part}
+use Rattle.pages.specs.Flat.{flat, page_in}
+use Rattle.pages.specs.Layout.{row, encode}
+use Rattle.pages.specs.Rows.{numbers_at}
+use Rattle.pages.proofs.Flats.{pages_written}
+use Rattle.pages.proofs.Memory.{entry_part}
 use Rattle.lookups.proofs.Right.{Known}
 use Rattle.lookups.proofs.Edited.{contents_wide}
 use Rattle.full_monitor.specs.Promises.{Whole, RecordStays, WordsStay, CellStays, CellsAreKept, CellsAreKeptOverRuns}

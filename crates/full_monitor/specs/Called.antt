@@ -7,8 +7,8 @@ use Rattle.model.specs.Monitor as model
 use Rattle.model.specs.Events.{Event, state, AllPaged}
 use Rattle.monitor.specs.Called.{Slices, Called}
 use Rattle.monitor.specs.declared.values.Reply.{Reply}
-use Rattle.full_pages.specs.Flat.{flat}
-use Rattle.full_pages.specs.Layout.{encode}
+use Rattle.pages.specs.Flat.{flat}
+use Rattle.pages.specs.Layout.{encode}
 use Rattle.full_monitor.specs.Program.{says, leaves, leaves_pages}
 
 -- It runs the program.

@@ -1,6 +1,6 @@
 -- What is lent to the monitor fits.
 use Rattle.std.specs.Prelude.{◌≡◌, ℕ, ◌*◌, List, length, slice_index}
-use Rattle.full_pages.specs.Rows.{Sized}
+use Rattle.full_pages.specs.Meaning.{Sized}
 
 -- memory of an opened monitor, and slices of closed and of open pages that fit it
 pub record Lent (m cs os : List ℕ) : Type 0 where

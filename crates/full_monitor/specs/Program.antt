@@ -10,8 +10,9 @@ use Rattle.model.specs.Answers.{Answer, refused, done, number, enters, told, lef
 use Rattle.model.specs.Pages.{sealed, stopped}
 use Rattle.model.specs.State.{word, seventeen, no_registers}
 use Rattle.model.specs.Refusals.{Check, ◌else◌, failing}
-use Rattle.full_pages.specs.Rows.{running_in, running_put}
-use Rattle.full_pages.specs.Meaning.{cleared, measure_in}
+use Rattle.pages.specs.Rows.{running_in, running_put}
+use Rattle.full_pages.specs.Meaning.{cleared}
+use Rattle.pages.specs.Meaning.{measure_in}
 use Rattle.lookups.specs.Lookups.{cell_of, thread_of, top_of, caller}
 use Rattle.lookups.specs.declared.Caller.{Caller}
 use Rattle.building.specs.Checks.{make_checks, start_checks, add_checks, hold_checks, give_checks, show_checks}

@@ -13,9 +13,9 @@ use Rattle.model.specs.Observers.{Observer, Alike, Agrees, AllAgree}
 use Rattle.model.specs.Changes.{belongs, concerns, AllOthers}
 use Rattle.fields.specs.Bytes.{Wide}
 use Rattle.answers.specs.Table.{write_answer}
-use Rattle.full_pages.specs.Flat.{flat, page_in}
-use Rattle.full_pages.specs.Layout.{encode}
-use Rattle.full_pages.specs.Rows.{new_memory, numbers_at}
+use Rattle.pages.specs.Flat.{flat, page_in}
+use Rattle.pages.specs.Layout.{encode}
+use Rattle.pages.specs.Rows.{new_memory, numbers_at}
 use Rattle.full_monitor.specs.Program.{says, leaves, leaves_pages}
 
 -- The sizes that the monitor has, with every call.

@@ -35,7 +35,7 @@ fn taken(memory: &mut [u64], closed: &mut [u32], open: &[u32], call: Call<'_>) -
     if !range::fits(call) {
         return refused(Reason::OutOfRange);
     }
-    let Some(_) = full_pages::running(memory) else {
+    let Some(_) = pages::running(memory) else {
         return by_system(memory, closed, open, call);
     };
     let Some(caller) = lookups::who_calls(memory) else {

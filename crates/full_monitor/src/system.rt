@@ -2,7 +2,7 @@
 ghost use Rattle.std.specs.Prelude.{◌≡◌, true, None};
 ghost use Rattle.answers.specs.Meaning.{answer_of};
 ghost use Rattle.calls.specs.Meaning.{call_of};
-ghost use Rattle.full_pages.specs.Rows.{running_in};
+ghost use Rattle.pages.specs.Rows.{running_in};
 ghost use Rattle.full_monitor.specs.Limits.{Lent};
 ghost use Rattle.full_monitor.specs.Program.{fits, Does};
 
@@ -25,7 +25,7 @@ pub fn by_system(
 {
     match call {
         Call::HowMany => Answer::Number {
-            number: full_pages::pages(memory),
+            number: pages::pages(memory),
         },
         Call::NewCell { first, top } => done(building::new_cell(memory, first, top)),
         Call::NewThread { page, cell, start } => {

@@ -4,7 +4,7 @@ use mathlib.Core.Logic.{∥∥₁_elim}
 use denote.Struct.Props.{props}
 use Rattle.model.specs.State.{Limits, State}
 use Rattle.model.specs.Events.{Event, state}
-use Rattle.full_pages.specs.Rows as rows
+use Rattle.full_pages.specs.Meaning as meaning
 use Rattle.full_pages.proofs.Seen.{reads_right}
 use Rattle.full_monitor.specs.Limits.{Lent}
 use Rattle.full_monitor.specs.Called.{Made}
@@ -16,10 +16,10 @@ lent_by : (l : Limits) (es : List Event) (m cs os : List ℕ) → Made l es m cs
 lent_by l es m cs os w =
     let s : State = state l es in
     let k = known l es w.sized w.paged in
-    let pages : get_or m 0 0 ≡ l.pages = ap (λ x. get_or x 0 0) w.memory ∙ reads_right.pages l s in
-    let opens : get_or m 1 0 ≡ l.opens = ap (λ x. get_or x 1 0) w.memory ∙ reads_right.opens l s in
+    let pages : get_or m 0 0 ≡ l.pages = ap (λ x. get_or x 0 0) w.memory ∙ reads_right.others.pages l s in
+    let opens : get_or m 1 0 ≡ l.opens = ap (λ x. get_or x 1 0) w.memory ∙ reads_right.others.opens l s in
     record {
-      memory = subst rows.Sized (sym w.memory)
+      memory = subst meaning.Sized (sym w.memory)
           (reads_right.sized l s k.invariant.entries_long w.sized.most_pages w.sized.most_opens);
       closed = closed_long l es m cs os w ∙ ap (λ n. n * 1024) (sym pages);
       opens = opens_long l es m cs os w ∙ ap (λ n. n * 1024) (sym opens);

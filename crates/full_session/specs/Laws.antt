@@ -15,11 +15,11 @@ use Rattle.monitor.specs.Called.{Slices, Called}
 use Rattle.monitor.specs.declared.values.Reply.{Reply}
 use Rattle.session.specs.Flat.{whole_page, page_fits}
 use Rattle.session.specs.Holding.{limits_of, with_call, HoldsAtFirst, CallsHold, WritesHold, OpenWritesHold}
-use Rattle.full_pages.specs.Flat.{flat, page_put}
-use Rattle.full_pages.specs.Layout.{encode}
-use Rattle.full_pages.specs.Rows.{new_memory}
-use Rattle.full_pages.proofs.Edits.{edits_written}
-use Rattle.full_pages.proofs.Flats.{pages_written}
+use Rattle.pages.specs.Flat.{flat, page_put}
+use Rattle.pages.specs.Layout.{encode}
+use Rattle.pages.specs.Rows.{new_memory}
+use Rattle.pages.proofs.Edits.{edits_written}
+use Rattle.pages.proofs.Flats.{pages_written}
 use Rattle.lookups.proofs.Right.{Known}
 use Rattle.lookups.proofs.Edited.{contents_wide, opens_wide}
 use Rattle.full_monitor.specs.Called.{Made, Refines}

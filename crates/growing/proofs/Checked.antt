@@ -10,7 +10,7 @@ use Rattle.model.specs.Refusals as refusals
 use Rattle.model.specs.Refusals.{failing, cell_checks}
 use Rattle.model.specs.Invariant.{Live, EntryFits}
 use Rattle.model.proofs.ConfRunning.{Runs, runs_now}
-use Rattle.full_pages.specs.Layout.{encode}
+use Rattle.pages.specs.Layout.{encode}
 use Rattle.lookups.specs.Lookups as look
 use Rattle.lookups.proofs.Checking.{check}
 use Rattle.lookups.proofs.Right.{Known, both_some, the_first, shown_caller, top_had, spares_right, helds_right, its_table}

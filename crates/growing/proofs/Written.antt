@@ -13,12 +13,12 @@ use Rattle.model.specs.Refusals.{failing, cell_checks}
 use Rattle.model.specs.Invariant.{EntryFits}
 use Rattle.model.specs.Monitor.{cell_edits}
 use Rattle.model.proofs.Effects.{passes}
-use Rattle.full_pages.specs.Flat.{flat, page_put}
-use Rattle.full_pages.specs.Layout.{encode}
+use Rattle.pages.specs.Flat.{flat, page_put}
+use Rattle.pages.specs.Layout.{encode}
 use Rattle.full_pages.specs.Meaning.{begun, Bare}
-use Rattle.full_pages.specs.declared.values.Record.TheVariants.{Spare}
+use Rattle.pages.specs.declared.values.Record.TheVariants.{Spare}
 use Rattle.full_pages.proofs.Edits.{edits_written}
-use Rattle.full_pages.proofs.Flats.{pages_written}
+use Rattle.pages.proofs.Flats.{pages_written}
 use Rattle.lookups.specs.Lookups as look
 use Rattle.lookups.proofs.Right.{Known, shown_caller, its_table, table_fits, vacant_right, showing_right}
 use Rattle.lookups.proofs.Edited.{bare_apart, contents_wide, long_slot, slot_other}
@@ -90,7 +90,7 @@ module _ (l : Limits) (s : State) (k : Known l s) (j : Caller) (calls : caller s
       ∙ ap (λ o. Some (unwrap_or o 0)) (sym (vacant_right l s k j.cell y.0 y.1 (live l s k j calls) w a b)) in
       ap (λ t. made_held (encode l s) p j.cell (unwrap_or (look.vacant (encode l s) t w) 0) w) (top_right l s k j calls)
       ∙ held_made l s k j.cell y.0 y.1 (live l s k j calls) p own.0 own.1 w _ b f
-      ∙ edits_written.write_page l
+      ∙ edits_written.others.write_page l
       (apply_all s (put_entry p (model.held (record { cell = j.cell })) ∷ put_slot j.cell w (closed p w.write w.run) ∷ []))
       p (state.zeros l)
 
@@ -140,7 +140,7 @@ module _ (l : Limits) (s : State) (k : Known l s) (j : Caller) (calls : caller s
       let stays = slot_other s j.cell w nothing _ p (entry s p) f refl
       (λ g. bare_apart s p _ (table t.0) own.1 t.1 (λ z. z) (sym g)) in
       ap (λ n. shrunk_at n) (top_right l s k j calls)
-      ∙ ap (λ m. begun m p (Spare j.cell)) (edits_written.put_slot l s j.cell w nothing _ t.0 f t.1
+      ∙ ap (λ m. begun m p (Spare j.cell)) (edits_written.others.put_slot l s j.cell w nothing _ t.0 f t.1
       (omega (arith, k.invariant.entries_long, table_fits l s k j.cell y.0 y.1 (live l s k j calls) w.table _ f))
       (omega (arith, b, fits.0, k.sized.slots_are)) b)
       ∙ edits_written.become l one p (Spare j.cell) (omega (arith, own.0, long_slot s j.cell w nothing)) (subst Bare (sym stays) own.1) tt

@@ -3,10 +3,11 @@ use Rattle.std.specs.Prelude.{ℕ, List, replicate}
 use Rattle.std.specs.Option.{unwrap_or}
 use Rattle.model.specs.Calls.{Place}
 use Rattle.model.specs.Pages.{nothing}
-use Rattle.full_pages.specs.Flat.{page_put}
-use Rattle.full_pages.specs.Rows.{slot_put}
+use Rattle.pages.specs.Flat.{page_put}
+use Rattle.pages.specs.Rows.{slot_put}
 use Rattle.full_pages.specs.Meaning.{begun}
-use Rattle.full_pages.specs.declared.values.Record.TheVariants.{Spare}
+
+use Rattle.pages.specs.declared.values.Record.TheVariants.{Spare}
 use Rattle.lookups.specs.Lookups.{vacant, showing}
 use Rattle.lookups.specs.declared.Caller.{Caller}
 use Rattle.building.specs.Made.{made_held, made_table}

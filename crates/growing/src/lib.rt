@@ -4,7 +4,7 @@
 ghost use Rattle.std.specs.Prelude.{◌≡◌, ◌*◌, ◌<◌, length, slice_index};
 ghost use Rattle.std.specs.Option.{unwrap_or};
 ghost use Rattle.fields.specs.Shapes.{place_of};
-ghost use Rattle.full_pages.specs.Rows.{Sized};
+ghost use Rattle.full_pages.specs.Meaning.{Sized};
 ghost use Rattle.lookups.specs.Lookups.{IsThere, vacant, showing};
 ghost use Rattle.lookups.specs.Outcomes.{Checked, Taken};
 ghost use Rattle.growing.specs.Checks.{own_spare, own_held, in_range, grow_checks, shrink_checks, extend_checks};
@@ -12,7 +12,7 @@ ghost use Rattle.growing.specs.Made.{grown, grown_pages, shrunk, extended};
 
 use answers::Reason;
 use fields::Place;
-use full_pages::{Record, Slot};
+use pages::{Record, Slot};
 use lookups::{Caller, InRange};
 
 // Whether a page is the caller's, and spare. This and the next are two functions, for a pattern cannot be handed on.
@@ -73,7 +73,7 @@ pub fn grow(
         (grown_pages closed.old page) closed.new result }
 {
     let table = may_grow(memory, caller, page, place)?;
-    full_pages::zero_page(closed, page);
+    pages::zero_page(closed, page);
     building::become_held(memory, page, caller.cell, table, place);
     Ok(())
 }
@@ -106,7 +106,7 @@ pub fn shrink(memory: &mut [u64], caller: Caller, page: u64, place: Place) -> Re
         (shrunk memory.old caller page (place_of place)) memory.new result }
 {
     let table = may_shrink(memory, caller, page, place)?;
-    full_pages::put_slot(memory, table, place.slot, Slot::Nothing);
+    pages::put_slot(memory, table, place.slot, Slot::Nothing);
     full_pages::put_record(memory, page, Record::Spare { cell: caller.cell });
     Ok(())
 }

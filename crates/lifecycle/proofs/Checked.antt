@@ -4,8 +4,8 @@ use Rattle.model.specs.Calls.{remove, seal, stop}
 use Rattle.model.specs.Pages.{Entry, kind, kind_number, part_of, is_spare, stopped, sealed}
 use Rattle.model.specs.State.{Limits, State, entry, is_owner_in}
 use Rattle.model.specs.Refusals.{failing, system_checks}
-use Rattle.full_pages.specs.Layout.{encode}
-use Rattle.full_pages.specs.Meaning.{shown}
+use Rattle.pages.specs.Layout.{encode}
+use Rattle.pages.specs.Meaning.{shown}
 use Rattle.lookups.specs.Lookups.{record_of, spare_in}
 use Rattle.lookups.specs.Lookups as look
 use Rattle.lookups.proofs.Checking.{check}

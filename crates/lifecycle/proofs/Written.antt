@@ -8,7 +8,7 @@ use Rattle.model.specs.Refusals.{failing, system_checks, cell_there}
 use Rattle.model.specs.Invariant.{EntryFits}
 use Rattle.model.specs.Monitor.{system_edits}
 use Rattle.model.proofs.Effects.{passes}
-use Rattle.full_pages.specs.Layout.{encode}
+use Rattle.pages.specs.Layout.{encode}
 use Rattle.full_pages.specs.Meaning.{cleared, FitsList}
 use Rattle.full_pages.proofs.Edits.{edits_written}
 use Rattle.lookups.proofs.Right.{Known, its_cell}
@@ -39,7 +39,7 @@ module _ (l : Limits) (s : State) (k : Known l s) where
   phase_written : (c : ℕ) (f : Phase) → cell_there l s c ≡ true → in_phase (encode l s) c f ≡ encode l (apply s (set_phase c f))
   phase_written c f h =
       let y = its_cell l s c h in
-      edits_written.set_phase l s c f y.0 y.1 (low c (and_parts (ltb c l.pages) (is_cell (entry s c)) h).0)
+      edits_written.others.set_phase l s c f y.0 y.1 (low c (and_parts (ltb c l.pages) (is_cell (entry s c)) h).0)
 
   pub sealed_written : (c : ℕ) → failing (system_checks l s (seal c)) ≡ None →
       in_phase (encode l s) c sealed ≡ encode l (apply_all s (system_edits l s (seal c)))

@@ -3,15 +3,15 @@
 
 ghost use Rattle.std.specs.Prelude.{◌≡◌, ◌<◌, ◌&&◌, ◌||◌, is_some, slice_index};
 ghost use Rattle.model.specs.Pages.{sealed, stopped};
-ghost use Rattle.full_pages.specs.Rows.{Sized};
-ghost use Rattle.full_pages.specs.Meaning.{cleared};
+ghost use Rattle.full_pages.specs.Meaning.{Sized, cleared};
+
 ghost use Rattle.lookups.specs.Lookups.{spare_in, cell_of, is_sealed, is_stopped};
 ghost use Rattle.lookups.specs.Outcomes.{Checked, Taken};
 ghost use Rattle.lifecycle.specs.Checks.{remove_checks, seal_checks, stop_checks};
 ghost use Rattle.lifecycle.specs.Made.{in_phase};
 
 use answers::Reason;
-use full_pages::{Phase, Record};
+use pages::{Phase, Record};
 
 // Whether a page may be taken from the cell that it is a part of: that is stopped, or sealed, and the page is spare.
 fn may_go(memory: &[u64], page: Record, owner: u64) -> bool
@@ -34,7 +34,7 @@ fn may_remove(memory: &[u64], page: u64) -> Result<(), Reason>
     requires { Sized memory.now }
     ensures { Checked (remove_checks memory.now page) (λ _. page < slice_index memory.now 0) result }
 {
-    if page >= full_pages::pages(memory) {
+    if page >= pages::pages(memory) {
         return Err(Reason::NotThere);
     }
     let is = lookups::record_of(memory, page);
@@ -71,7 +71,7 @@ pub fn seal(memory: &mut [u64], cell: u64) -> Result<(), Reason>
     let Phase::Building = has.phase else {
         return Err(Reason::NotBuilding);
     };
-    full_pages::put_phase(memory, cell, Phase::Sealed);
+    pages::put_phase(memory, cell, Phase::Sealed);
     Ok(())
 }
 
@@ -83,6 +83,6 @@ pub fn stop(memory: &mut [u64], cell: u64) -> Result<(), Reason>
     let Some(_) = lookups::cell_of(memory, cell) else {
         return Err(Reason::NoCell);
     };
-    full_pages::put_phase(memory, cell, Phase::Stopped);
+    pages::put_phase(memory, cell, Phase::Stopped);
     Ok(())
 }

@@ -5,7 +5,7 @@ use Rattle.model.specs.Calls.{Place}
 use Rattle.model.specs.Pages as model
 use Rattle.model.specs.Pages.{Entry, free, cell, thread, top, table, held, spare, kind, kind_number, at, table_at, tables_by, tables_in}
 use Rattle.model.specs.State.{Limits, State, entry, apply, put_entry, put_slot}
-use Rattle.full_pages.specs.Flat.{Wide}
+use Rattle.pages.specs.Flat.{Wide}
 use Rattle.full_pages.specs.Meaning.{Bare}
 use Rattle.lookups.proofs.Right.{Known}
 

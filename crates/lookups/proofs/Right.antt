@@ -11,11 +11,11 @@ use Rattle.model.specs.State as state
 use Rattle.model.specs.State.{Limits, State, entry}
 use Rattle.model.specs.Refusals.{cell_there, thread_there, own_spare, own_held}
 use Rattle.model.specs.Invariant.{Invariant, Live, EntryFits}
-use Rattle.full_pages.specs.Layout.{encode}
-use Rattle.full_pages.specs.Rows as rows
-use Rattle.full_pages.specs.Meaning.{record_in, phase_shown, shown}
-use Rattle.full_pages.specs.declared.values.Record.TheVariants.{Free}
-use Rattle.full_pages.proofs.Seen.{reads_right}
+use Rattle.pages.specs.Layout.{encode}
+use Rattle.pages.specs.Rows as rows
+use Rattle.pages.specs.Meaning.{record_in, phase_shown, shown}
+use Rattle.pages.specs.declared.values.Record.TheVariants.{Free}
+use Rattle.pages.proofs.Seen.{reads_right}
 use Rattle.lookups.specs.Lookups as look
 use Rattle.lookups.specs.Lookups.{there, if_there, record_of}
 use Rattle.lookups.specs.declared.Cell.{Cell}

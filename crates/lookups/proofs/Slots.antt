@@ -2,10 +2,10 @@
 use Rattle.std.proofs.Common.{◌≡◌, ◌≢◌, ℕ, Bool, false, true, cond, eqb, List, Some, None, sym, refl, ap, ◌∙◌, eq-eqb, ne_eqb}
 use Rattle.model.specs.Calls.{Place}
 use Rattle.model.specs.Pages.{◌is◌, is_nothing, closed_in}
-use Rattle.full_pages.specs.Meaning.{slot_of}
-use Rattle.full_pages.specs.declared.values.Slot.{Slot}
-use Rattle.full_pages.specs.declared.values.Slot.TheVariants.{Nothing, Closed, Opened}
-use Rattle.full_pages.specs.Rows.{slot_in}
+use Rattle.pages.specs.Meaning.{slot_of}
+use Rattle.pages.specs.declared.values.Slot.{Slot}
+use Rattle.pages.specs.declared.values.Slot.TheVariants.{Nothing, Closed, Opened}
+use Rattle.pages.specs.Rows.{slot_in}
 use Rattle.lookups.specs.Lookups.{table_of, empty_in, showing_in, vacant, showing}
 
 something : (z : Slot) → z ≢ Nothing → is_nothing (slot_of z) ≡ false

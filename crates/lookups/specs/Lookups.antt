@@ -3,12 +3,12 @@
 use Rattle.std.specs.Prelude.{ℕ, zero, suc, ◌<◌, Bool, true, false, cond, ◌||◌, List, Some, None, Option, ◌==◌, nat_lt, slice_index}
 use Rattle.model.specs.Calls.{Place}
 use Rattle.model.specs.Pages.{◌is◌, is_nothing, closed_in}
-use Rattle.full_pages.specs.Rows.{slot_in, table_in, running_in}
-use Rattle.full_pages.specs.Meaning.{record_in}
-use Rattle.full_pages.specs.declared.values.Phase.{Phase}
-use Rattle.full_pages.specs.declared.values.Phase.TheVariants.{Building, Sealed, Stopped}
-use Rattle.full_pages.specs.declared.values.Record.{Record}
-use Rattle.full_pages.specs.declared.values.Record.TheVariants.{Free, Cell as CellRecord, Thread as ThreadRecord, Top, Table, Held, Spare}
+use Rattle.pages.specs.Rows.{slot_in, table_in, running_in}
+use Rattle.pages.specs.Meaning.{record_in}
+use Rattle.pages.specs.declared.values.Phase.{Phase}
+use Rattle.pages.specs.declared.values.Phase.TheVariants.{Building, Sealed, Stopped}
+use Rattle.pages.specs.declared.values.Record.{Record}
+use Rattle.pages.specs.declared.values.Record.TheVariants.{Free, Cell as CellRecord, Thread as ThreadRecord, Top, Table, Held, Spare}
 use Rattle.lookups.specs.declared.Cell.{Cell}
 use Rattle.lookups.specs.declared.Thread.{Thread}
 use Rattle.lookups.specs.declared.Caller.{Caller}

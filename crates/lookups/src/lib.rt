@@ -6,12 +6,13 @@ mod in_range;
 
 ghost use Rattle.std.specs.Prelude.{◌≡◌, ◌<◌, None, Some, IfSome, MatchOption, OnSome, slice_index};
 ghost use Rattle.fields.specs.Shapes.{place_of};
-ghost use Rattle.full_pages.specs.Rows.{Sized, slot_in};
-ghost use Rattle.full_pages.specs.Meaning.{slot_of};
+ghost use Rattle.pages.specs.Rows.{slot_in};
+ghost use Rattle.full_pages.specs.Meaning.{Sized};
+ghost use Rattle.pages.specs.Meaning.{slot_of};
 ghost use Rattle.lookups.specs.Lookups.{there, record_of, part_of, cell_of, thread_of, table_of, vacant, showing};
 ghost use Rattle.lookups.specs.Lookups.{caller as caller_in, IsThere, has_parts};
 
-use full_pages::{Phase, Record, Slot};
+use pages::{Phase, Record, Slot};
 pub use in_range::InRange;
 
 // What the first page of a cell has.
@@ -43,10 +44,10 @@ pub fn record_of(memory: &[u64], page: u64) -> Record
     requires { Sized memory.now }
     ensures { result ≡ record_of memory.now page }
 {
-    if page >= full_pages::pages(memory) {
+    if page >= pages::pages(memory) {
         return Record::Free;
     }
-    full_pages::record_at(memory, page)
+    pages::record_at(memory, page)
 }
 
 // The cell that a page is a part of.
@@ -72,7 +73,7 @@ pub fn cell_of(memory: &[u64], page: u64) -> Option<Cell>
     let Record::Cell { top, phase } = record_of(memory, page) else {
         return None;
     };
-    if top >= full_pages::pages(memory) {
+    if top >= pages::pages(memory) {
         return None;
     }
     Some(Cell { top, phase })
@@ -105,8 +106,8 @@ pub fn table_of(memory: &[u64], top: u64, index: u64) -> Option<u64>
     ensures value { result ≡ table_of memory.now top index }
     ensures there { IfSome result (λ q. q < slice_index memory.now 0) }
 {
-    let table = full_pages::table_at(memory, top, index)?;
-    if table >= full_pages::pages(memory) {
+    let table = pages::table_at(memory, top, index)?;
+    if table >= pages::pages(memory) {
         return None;
     }
     Some(table)
@@ -120,7 +121,7 @@ fn seen_at(memory: &[u64], top: u64, at: InRange) -> Option<(u64, Slot)>
         × (x.0 < slice_index memory.now 0)) }
 {
     let table = table_of(memory, top, at.place.table)?;
-    Some((table, full_pages::slot_at(memory, table, at.place.slot)))
+    Some((table, pages::slot_at(memory, table, at.place.slot)))
 }
 
 // The table in which a place has nothing in its slot.
@@ -158,7 +159,7 @@ pub fn who_calls(memory: &[u64]) -> Option<Caller>
     ensures value { result ≡ caller_in memory.now }
     ensures there { IfSome result (IsThere memory.now) }
 {
-    let thread = full_pages::running(memory)?;
+    let thread = pages::running(memory)?;
     let cell = part_of(record_of(memory, thread))?;
     let Cell { top, .. } = cell_of(memory, cell)?;
     Some(Caller { thread, cell, top })
@@ -171,7 +172,7 @@ pub fn has_parts(memory: &[u64], cell: u64) -> bool
     ensures { result ≡ has_parts (slice_index memory.now 0) memory.now cell }
 {
     let mut found = false;
-    'pages: for page in 0..full_pages::pages(memory) {
+    'pages: for page in 0..pages::pages(memory) {
         if part_of(record_of(memory, page)) == Some(cell) {
             found = true;
             break 'pages;

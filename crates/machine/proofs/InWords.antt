@@ -10,10 +10,10 @@ use Rattle.model.specs.Machine.{words_behind, write_behind}
 use Rattle.model.specs.Processor as processor
 use Rattle.model.specs.Processor.{Seen, seen, seen_in, in_place, steps, table_number, slot_number, word_number}
 use Rattle.model.proofs.InPlace.{SameCame, simulates}
-use Rattle.full_pages.specs.Flat.{flat, Wide}
-use Rattle.full_pages.specs.Layout.{encode}
-use Rattle.full_pages.specs.Rows as rows
-use Rattle.full_pages.proofs.Flats.{flat_nth, flat_set}
+use Rattle.pages.specs.Flat.{flat, Wide}
+use Rattle.pages.specs.Layout.{encode}
+use Rattle.pages.specs.Rows as rows
+use Rattle.pages.proofs.Flats.{flat_nth, flat_set}
 use Rattle.lookups.specs.Lookups as look
 use Rattle.lookups.proofs.Right.{Known, there_right, open_right, table_right, its_table, no_table, slot_right}
 use Rattle.machine.specs.Instructions.{made_up}

@@ -6,8 +6,8 @@ use Rattle.model.specs.Events.{state}
 use Rattle.model.specs.Worlds.{World}
 use Rattle.model.specs.Processor.{in_place, steps, patience, drawn}
 use Rattle.model.proofs.InPlace.{plays_in_place}
-use Rattle.full_pages.specs.Flat.{flat}
-use Rattle.full_pages.specs.Layout.{encode}
+use Rattle.pages.specs.Flat.{flat}
+use Rattle.pages.specs.Layout.{encode}
 use Rattle.lookups.proofs.Edited.{contents_wide, opens_wide}
 use Rattle.full_monitor.proofs.Right.{known}
 use Rattle.machine.specs.Instructions.{made_up}

@@ -9,7 +9,7 @@ use Rattle.model.specs.Processor.{Step, moves, stores, asks, Came, then, steps}
 use Rattle.calls.specs.Meaning.{call_of}
 use Rattle.calls.specs.declared.call.Call.{Call}
 use Rattle.machine.specs.Instructions.{made_up}
-use Rattle.full_pages.specs.Rows.{Sized}
+use Rattle.full_pages.specs.Meaning.{Sized}
 use Rattle.machine.specs.Lent.{Words, lent, looked}
 use Rattle.machine.specs.Held.{words_of, sees, Whole, Kept}
 use Rattle.machine.specs.declared.seeing.Lent.{Lent}

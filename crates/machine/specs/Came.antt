@@ -15,7 +15,7 @@ use Rattle.model.specs.Processor.{Step, moves, stores, asks, Came, steps, machin
 use Rattle.calls.specs.Meaning.{call_of}
 use Rattle.calls.specs.declared.call.Call.{Call}
 use Rattle.fields.specs.declared.values.Registers.{Registers}
-use Rattle.full_pages.specs.Flat.{flat}
+use Rattle.pages.specs.Flat.{flat}
 use Rattle.full_monitor.specs.Called.{Made}
 use Rattle.machine.specs.Instructions.{made_up, with_register, low}
 use Rattle.machine.specs.Lent.{Words, lent}

@@ -2,7 +2,7 @@
 use Rattle.std.specs.Prelude.{◌≡◌, ◌<◌, ℕ, Result, MatchResult, ◌+◌, ◌-◌, ◌*◌, ◌/◌, ◌%◌, Bool, true, false, cond, not, List, ◌==◌, nat_lt, slice_index, slice_set}
 use Rattle.model.specs.Calls.{CellCall, leave, fault, grow, shrink, extend, who, draw}
 use Rattle.model.specs.Processor.{Seen, unseen, seen, Step, moves, stores, asks, Processor}
-use Rattle.full_pages.specs.Packing.{place_from}
+use Rattle.pages.specs.Packing.{place_from}
 use Rattle.machine.specs.declared.values.Instruction.{Instruction}
 use Rattle.machine.specs.declared.values.Instruction.TheVariants.{Unknown, Set, High, Move, Add, Subtract, Load, Store, Compare, Jump, Go, Ask}
 use Rattle.machine.specs.declared.decoding.UnknownWhen.{UnknownWhen}

@@ -2,7 +2,8 @@
 use Rattle.std.specs.Prelude.{ℕ, ◌+◌, ◌*◌, ◌<◌, false, cond, List, Some, None, Option, nat_lt, slice_index, slice_set}
 use Rattle.model.specs.Pages.{Slot, nothing, closed, opened}
 use Rattle.model.specs.Processor.{Seen, unseen, seen, Memory, table_number, slot_number, word_number}
-use Rattle.full_pages.specs.Rows.{Sized, slot_in}
+use Rattle.pages.specs.Rows.{slot_in}
+use Rattle.full_pages.specs.Meaning.{Sized}
 use Rattle.lookups.specs.Lookups.{there, open_there, table_of}
 
 -- what is asked of the memory: it has its records, and one for the top table

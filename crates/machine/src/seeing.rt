@@ -2,13 +2,13 @@
 ghost use Rattle.std.specs.Prelude.{◌≡◌};
 ghost use Rattle.model.specs.Pages.{writable};
 ghost use Rattle.model.specs.Processor.{word_number};
-ghost use Rattle.full_pages.specs.Meaning.{slot_of};
+ghost use Rattle.pages.specs.Meaning.{slot_of};
 ghost use Rattle.machine.specs.Held.{slot_at, sees, Whole, Kept};
 ghost use Rattle.machine.specs.Lent.{closed_put, open_put};
 ghost use Rattle.machine.specs.Meaning.{seen_of};
 
 use crate::values::Seen;
-use full_pages::Slot;
+use pages::Slot;
 
 // How many places a top table has, and slots a table.
 const PLACES: u64 = 256;
@@ -52,9 +52,9 @@ impl Lent<'_> {
         let Some(table) = lookups::table_of(memory, self.top, table) else {
             return Slot::Nothing;
         };
-        match full_pages::slot_at(memory, table, address / PAGE_BYTES % SLOTS) {
-            Slot::Closed { page, .. } if page >= full_pages::pages(memory) => Slot::Nothing,
-            Slot::Opened { page, .. } if page >= full_pages::opens(memory) => Slot::Nothing,
+        match pages::slot_at(memory, table, address / PAGE_BYTES % SLOTS) {
+            Slot::Closed { page, .. } if page >= pages::pages(memory) => Slot::Nothing,
+            Slot::Opened { page, .. } if page >= pages::opens(memory) => Slot::Nothing,
             slot => slot,
         }
     }

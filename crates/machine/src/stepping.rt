@@ -88,11 +88,11 @@ fn ask(call: u32, registers: Registers, chance: u32) -> Call<'static>
         22 => Call::Fault { kind: first },
         23 => Call::Grow {
             page: first,
-            place: full_pages::place_from(second),
+            place: pages::place_from(second),
         },
         24 => Call::Shrink {
             page: first,
-            place: full_pages::place_from(second),
+            place: pages::place_from(second),
         },
         25 => Call::Extend {
             page: first,

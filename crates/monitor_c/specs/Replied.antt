@@ -3,7 +3,7 @@ use Rattle.std.specs.Prelude.{◌≡◌, Bool, true, false, ◌&&◌, List, ◌+
 use Rattle.model.specs.Calls.{Call}
 use Rattle.model.specs.Answers.{to_system}
 use Rattle.answers.specs.Table.{write_answer}
-use Rattle.full_pages.specs.Rows.{new_memory}
+use Rattle.pages.specs.Rows.{new_memory}
 use Rattle.monitor.specs.Stage.{fitting}
 use Rattle.full_monitor.specs.Program.{says, leaves, leaves_pages}
 use Rattle.monitor.specs.Called.{Slices}

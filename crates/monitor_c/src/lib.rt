@@ -30,8 +30,8 @@ fn fits(memory: &[u64], closed: &[u32], open: &[u32], told: &[u8]) -> bool
     if memory.len() < HEADER {
         return false;
     }
-    let pages = full_pages::pages(memory);
-    let opens = full_pages::opens(memory);
+    let pages = pages::pages(memory);
+    let opens = pages::opens(memory);
     pages <= MOST_CLOSED
         && opens <= MOST_OPEN
         && memory.len() as u64 == HEADER as u64 + pages * RECORD

@@ -8,7 +8,7 @@ use Rattle.model.specs.Pages.{thread, kind, part_of, sealed, is_thread, thread_g
 use Rattle.model.specs.State.{Limits, State, entry, is_owner_in}
 use Rattle.model.specs.Refusals as refusals
 use Rattle.model.specs.Refusals.{failing, system_checks, thread_there}
-use Rattle.full_pages.specs.Layout.{encode}
+use Rattle.pages.specs.Layout.{encode}
 use Rattle.lookups.specs.Lookups as look
 use Rattle.lookups.proofs.Checking.{check}
 use Rattle.lookups.proofs.Right.{Known, the_thread, shown_thread, thread_right, threads_right, sealed_right}

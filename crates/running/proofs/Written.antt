@@ -15,11 +15,11 @@ use Rattle.model.specs.Refusals.{thread_there}
 use Rattle.model.specs.Invariant.{EntryFits}
 use Rattle.model.specs.Monitor as monitor
 use Rattle.model.specs.Monitor.{entered, name_in}
-use Rattle.full_pages.specs.Layout.{encode}
-use Rattle.full_pages.specs.Rows as rows
-use Rattle.full_pages.specs.Meaning.{measure_in}
-use Rattle.full_pages.proofs.Edits.{edits_written}
-use Rattle.full_pages.proofs.Seen.{reads_right}
+use Rattle.pages.specs.Layout.{encode}
+use Rattle.pages.specs.Rows as rows
+use Rattle.pages.specs.Meaning.{measure_in}
+use Rattle.pages.proofs.Edits.{edits_written}
+use Rattle.pages.proofs.Seen.{reads_right}
 use Rattle.lookups.specs.Lookups as look
 use Rattle.lookups.proofs.Right.{Known, shown_cell, cell_right}
 use Rattle.running.specs.Made.{top_for, start_of, first_registers, kept_registers, run_ended}

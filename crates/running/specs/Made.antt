@@ -2,7 +2,7 @@
 use Rattle.std.specs.Prelude.{◌≡◌, ℕ, ◌%◌, Bool, List, [], ◌∷◌, ◌++◌, replicate, Some, None, Ok, Err, Option, Result}
 use Rattle.answers.specs.Reasons.{number_of}
 use Rattle.answers.specs.declared.reason.Reason.{Reason}
-use Rattle.full_pages.specs.Rows.{thread_put, running_put, numbers_at, low_words}
+use Rattle.pages.specs.Rows.{thread_put, running_put, numbers_at, low_words}
 use Rattle.model.specs.Refusals.{Check, failing}
 use Rattle.lookups.specs.Lookups.{cell_of, thread_of, top_of}
 use Rattle.lookups.specs.declared.Thread.{Thread}

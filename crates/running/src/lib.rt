@@ -3,8 +3,8 @@
 
 ghost use Rattle.std.specs.Prelude.{◌≡◌, ◌%◌, ◌<◌, true, false, cond, [], ◌∷◌, ◌++◌, replicate, None};
 ghost use Rattle.sha256.specs.Measures.{name_words};
-ghost use Rattle.full_pages.specs.Rows.{Sized};
-ghost use Rattle.full_pages.specs.Meaning.{measure_in};
+ghost use Rattle.full_pages.specs.Meaning.{Sized};
+ghost use Rattle.pages.specs.Meaning.{measure_in};
 ghost use Rattle.lookups.specs.Lookups.{IsThere, cell_of, is_sealed};
 ghost use Rattle.running.specs.Checks.{enter_checks, resume_checks};
 ghost use Rattle.running.specs.Made.{first_registers, kept_registers, Entered, run_ended};
@@ -13,7 +13,7 @@ mod registers;
 
 use answers::Reason;
 use fields::Registers;
-use full_pages::Phase;
+use pages::Phase;
 use lookups::{Caller, Cell, Thread};
 pub use registers::registers_from;
 
@@ -65,7 +65,7 @@ pub fn enter(memory: &mut [u64], thread: u64, x: u32, y: u32, z: u32) -> Result<
     if has.under_way {
         return Err(Reason::UnderWay);
     }
-    full_pages::put_running(memory, Some(thread));
+    pages::put_running(memory, Some(thread));
     Ok(Entry {
         top: cell.top,
         registers: first_registers(has.start, x, y, z),
@@ -86,8 +86,8 @@ pub fn resume(memory: &mut [u64], thread: u64) -> Result<Entry, Reason>
     if !has.under_way {
         return Err(Reason::NotUnderWay);
     }
-    let registers = full_pages::registers_at(memory, thread);
-    full_pages::put_running(memory, Some(thread));
+    let registers = pages::registers_at(memory, thread);
+    pages::put_running(memory, Some(thread));
     Ok(Entry {
         top: cell.top,
         registers,
@@ -99,8 +99,8 @@ pub fn leave(memory: &mut [u64], caller: Caller)
     requires { (Sized memory.old) × (IsThere memory.old caller) }
     ensures { memory.new ≡ run_ended memory.old caller.thread false (replicate 17 0) }
 {
-    full_pages::put_thread(memory, caller.thread, false, NO_REGISTERS);
-    full_pages::put_running(memory, None);
+    pages::put_thread(memory, caller.thread, false, NO_REGISTERS);
+    pages::put_running(memory, None);
 }
 
 // A thread is interrupted: its registers are kept, it is under way, and none runs.
@@ -108,8 +108,8 @@ pub fn interrupt(memory: &mut [u64], caller: Caller, registers: Registers)
     requires { (Sized memory.old) × (IsThere memory.old caller) }
     ensures { memory.new ≡ run_ended memory.old caller.thread true registers.words }
 {
-    full_pages::put_thread(memory, caller.thread, true, registers);
-    full_pages::put_running(memory, None);
+    pages::put_thread(memory, caller.thread, true, registers);
+    pages::put_running(memory, None);
 }
 
 // The name of the cell that asks, as eight words.
@@ -117,5 +117,5 @@ pub fn who(memory: &[u64], caller: Caller) -> [u32; 8]
     requires { (Sized memory.now) × (IsThere memory.now caller) }
     ensures { result ≡ name_words (measure_in memory.now caller.cell) }
 {
-    full_pages::measure_at(memory, caller.cell).name()
+    pages::measure_at(memory, caller.cell).name()
 }

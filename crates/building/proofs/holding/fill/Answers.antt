@@ -1,5 +1,5 @@
 use Rattle.std.proofs.Common.{sym, ap, ◌∙◌}
-use Rattle.full_pages.specs.Flat.{page_put}
+use Rattle.pages.specs.Flat.{page_put}
 use Rattle.building.specs.Made.{source_words}
 use Rattle.building.proofs.holding.fill.Goals as goal
 

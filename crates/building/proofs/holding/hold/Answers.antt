@@ -1,9 +1,9 @@
 use Rattle.std.proofs.Common.{◌≡◌, ℕ, List, length, ap, ◌∙◌, ap₂, arith}
 use Rattle.fields.specs.Shapes.{place_of}
-use Rattle.full_pages.specs.Flat.{HasWords, page_in}
-use Rattle.full_pages.specs.Rows.{numbers_put}
-use Rattle.full_pages.specs.Meaning.{measure_words}
-use Rattle.full_pages.proofs.Lists.{length_page}
+use Rattle.pages.specs.Flat.{HasWords, page_in}
+use Rattle.pages.specs.Rows.{numbers_put}
+use Rattle.pages.specs.Meaning.{measure_words}
+use Rattle.pages.proofs.Lists.{length_page}
 use Rattle.building.specs.Made.{source_words, held_measure, made_held}
 use Rattle.building.proofs.Filled.{read_back, length_source, source_fits}
 use Rattle.building.proofs.holding.hold.Goals as goal
