@@ -1,8 +1,7 @@
 // What stands in the memory, read.
-ghost use Rattle.std.specs.Prelude.{◌≡◌, ◌+◌, ◌*◌, ◌<◌, slice_index};
+ghost use Rattle.std.specs.Prelude.{◌≡◌, ◌+◌, ◌*◌, ◌%◌, ◌<◌, ◌≤◌, slice_index};
 ghost use Rattle.pages.specs.Rows.{HasHeader, HasPage, number_at, numbers_at, slot_in, table_in, running_in, low_words};
-ghost use Rattle.pages.specs.Packing.{some_from};
-ghost use Rattle.pages.specs.Meaning.{slot_of, phase_from, record_in, measure_in, word_at};
+ghost use Rattle.pages.specs.Meaning.{slot_of, record_in, measure_in};
 
 use crate::packing::unpack;
 use crate::values::{LIST, Phase, Record, Slot, start_of};
@@ -17,29 +16,22 @@ fn number(memory: &[u64], page: u64, index: usize) -> u64
     memory[start_of(page) + index]
 }
 
-// The low 32 bits of it.
-fn word(memory: &[u64], page: u64, index: usize) -> u32
-    requires { (HasPage memory.now page) × (index < 2048) }
-    ensures { result ≡ word_at memory.now page index }
+// Numbers from an index of a page's record on.
+fn numbers<const N: usize>(memory: &[u64], page: u64, index: usize) -> [u64; N]
+    requires { (HasPage memory.now page) × (index + N ≤ 2048) }
+    ensures { result ≡ numbers_at memory.now page index N }
 {
-    (number(memory, page, index) & 0xffff_ffff) as u32
+    let start = start_of(page) + index;
+    let mut numbers = [0; N];
+    numbers.copy_from_slice(&memory[start..start + N]);
+    numbers
 }
 
-// A page's number that is kept with 0 for none.
-fn some_from(number: u64) -> Option<u64>
-    ensures { result ≡ some_from number }
+// The low 32 bits of a number.
+fn low(number: u64) -> u32
+    ensures { result ≡ number % 4294967296 }
 {
-    if number == 0 { None } else { Some(number - 1) }
-}
-
-fn phase_from(number: u64) -> Phase
-    ensures { result ≡ phase_from number }
-{
-    match number {
-        0 => Phase::Building,
-        1 => Phase::Sealed,
-        _ => Phase::Stopped,
-    }
+    (number & 0xffff_ffff) as u32
 }
 
 // What a page is.
@@ -47,14 +39,12 @@ pub fn record_at(memory: &[u64], page: u64) -> Record
     requires { HasPage memory.now page }
     ensures { result ≡ record_in memory.now page }
 {
-    let cell = number(memory, page, 1);
-    let first = number(memory, page, 2);
-    let second = number(memory, page, 3);
-    match number(memory, page, 0) {
+    let [kind, cell, first, second] = numbers::<4>(memory, page, 0);
+    match kind {
         0 => Record::Free,
         1 => Record::Cell {
             top: first,
-            phase: phase_from(second),
+            phase: Phase::from(second),
         },
         2 => Record::Thread {
             cell,
@@ -76,12 +66,12 @@ pub fn slot_at(memory: &[u64], table: u64, slot: u64) -> Slot
     unpack(number(memory, table, LIST + slot as usize))
 }
 
-// The table at a place of a top table, if there is one.
+// The table at a place of a top table, if there is one. A page that may be missing is kept as one more than its number, or 0.
 pub fn table_at(memory: &[u64], top: u64, place: u64) -> Option<u64>
     requires { (HasPage memory.now top) × (place < 256) }
     ensures { result ≡ table_in memory.now top place }
 {
-    some_from(number(memory, top, LIST + place as usize))
+    number(memory, top, LIST + place as usize).checked_sub(1)
 }
 
 // How many closed pages there are.
@@ -105,7 +95,7 @@ pub fn running(memory: &[u64]) -> Option<u64>
     requires { HasHeader memory.now }
     ensures { result ≡ running_in memory.now }
 {
-    some_from(memory[8])
+    memory[8].checked_sub(1)
 }
 
 // A thread's registers.
@@ -113,11 +103,9 @@ pub fn registers_at(memory: &[u64], thread: u64) -> Registers
     requires { HasPage memory.now thread }
     ensures { result.words ≡ low_words (numbers_at memory.now thread 4 17) }
 {
-    let mut words = [0; 17];
-    for i in 0..17 {
-        words[i] = word(memory, thread, LIST + i);
+    Registers {
+        words: numbers::<17>(memory, thread, LIST).map(low),
     }
-    Registers { words }
 }
 
 // What was measured of a cell.
@@ -125,17 +113,18 @@ pub fn measure_at(memory: &[u64], cell: u64) -> Measure
     requires { HasPage memory.now cell }
     ensures { result ≡ measure_in memory.now cell }
 {
+    let [blocks, a, b, c, d, e, f, g, h] = numbers::<9>(memory, cell, LIST);
     Measure {
         hash: Hash {
-            a: word(memory, cell, 5),
-            b: word(memory, cell, 6),
-            c: word(memory, cell, 7),
-            d: word(memory, cell, 8),
-            e: word(memory, cell, 9),
-            f: word(memory, cell, 10),
-            g: word(memory, cell, 11),
-            h: word(memory, cell, 12),
+            a: low(a),
+            b: low(b),
+            c: low(c),
+            d: low(d),
+            e: low(e),
+            f: low(f),
+            g: low(g),
+            h: low(h),
         },
-        blocks: number(memory, cell, LIST),
+        blocks,
     }
 }

@@ -1,5 +1,7 @@
 // What stands in the memory.
 ghost use Rattle.std.specs.Prelude.{◌≡◌, ◌+◌, ◌*◌, ◌^◌, ◌<◌};
+ghost use Rattle.model.specs.Pages.{phase_number};
+ghost use Rattle.pages.specs.Meaning.{phase_from, phase_of, beginning};
 
 // How many numbers the header has, and a page's record, and where in a record its list begins.
 const HEADER: usize = 256;
@@ -22,6 +24,31 @@ pub enum Phase {
     Building,
     Sealed,
     Stopped,
+}
+
+impl From<u64> for Phase {
+    ghost from_gives = { λ n f. f ≡ phase_from n };
+
+    fn from(number: u64) -> Phase {
+        match number {
+            0 => Phase::Building,
+            1 => Phase::Sealed,
+            _ => Phase::Stopped,
+        }
+    }
+}
+
+impl From<Phase> for u64 {
+    ghost from_gives = { λ f n. n ≡ phase_number (phase_of f) };
+
+    #[tactic(auto, unfolding(model::specs::Pages::phase_number))]
+    fn from(phase: Phase) -> u64 {
+        match phase {
+            Phase::Building => 0,
+            Phase::Sealed => 1,
+            Phase::Stopped => 2,
+        }
+    }
 }
 
 // What a closed page is, without the list in its record. A cell is named by its first page.
@@ -49,6 +76,27 @@ pub enum Record {
     Spare {
         cell: u64,
     },
+}
+
+impl Record {
+    // The four numbers that its record begins with.
+    pub fn beginning(self) -> [u64; 4]
+        ensures { result ≡ beginning self }
+    {
+        match self {
+            Record::Free => [0; 4],
+            Record::Cell { top, phase } => [1, 0, top, u64::from(phase)],
+            Record::Thread {
+                cell,
+                start,
+                under_way,
+            } => [2, cell, start, under_way as u64],
+            Record::Top { cell } => [3, cell, 0, 0],
+            Record::Table { cell } => [4, cell, 0, 0],
+            Record::Held { cell } => [5, cell, 0, 0],
+            Record::Spare { cell } => [6, cell, 0, 0],
+        }
+    }
 }
 
 // What a slot of a table has.

@@ -39,17 +39,6 @@ pub fn put_numbers(memory: &mut [u64], page: u64, index: usize, numbers: &[u64])
     memory[start..start + numbers.len()].copy_from_slice(numbers);
 }
 
-// A phase's number.
-fn number_of(phase: Phase) -> u64
-    ensures { result ≡ phase_number (phase_of phase) }
-{
-    match phase {
-        Phase::Building => 0,
-        Phase::Sealed => 1,
-        Phase::Stopped => 2,
-    }
-}
-
 // Puts what a slot of a table has.
 pub fn put_slot(memory: &mut [u64], table: u64, slot: u64, value: Slot)
     requires { (HasPage memory.old table) × ((slot < 1024) × (Packs value)) }
@@ -71,18 +60,7 @@ pub fn put_phase(memory: &mut [u64], cell: u64, phase: Phase)
     requires { HasPage memory.old cell }
     ensures { memory.new ≡ number_put memory.old cell 3 (phase_number (phase_of phase)) }
 {
-    put_number(memory, cell, 3, number_of(phase));
-}
-
-// Registers as numbers.
-fn wide(registers: Registers) -> [u64; 17]
-    ensures { result ≡ registers.words }
-{
-    let mut numbers = [0; 17];
-    for i in 0..17 {
-        numbers[i] = registers.words[i] as u64;
-    }
-    numbers
+    put_number(memory, cell, 3, u64::from(phase));
 }
 
 // Puts whether a thread is under way, and its registers.
@@ -91,7 +69,7 @@ pub fn put_thread(memory: &mut [u64], thread: u64, under_way: bool, registers: R
     ensures { memory.new ≡ thread_put memory.old thread under_way registers.words }
 {
     put_number(memory, thread, 3, under_way as u64);
-    put_numbers(memory, thread, LIST, &wide(registers));
+    put_numbers(memory, thread, LIST, &registers.words.map(u64::from));
 }
 
 // Puts what was measured of a cell.
@@ -140,27 +118,6 @@ pub fn let_go(memory: &mut [u64], page: u64)
     ensures { memory.new ≡ row_put memory.old page (row free_entry) }
 {
     clear(memory, page, RECORD);
-}
-
-impl Record {
-    // The four numbers that its record begins with.
-    pub fn beginning(self) -> [u64; 4]
-        ensures { result ≡ beginning self }
-    {
-        match self {
-            Record::Free => [0; 4],
-            Record::Cell { top, phase } => [1, 0, top, number_of(phase)],
-            Record::Thread {
-                cell,
-                start,
-                under_way,
-            } => [2, cell, start, under_way as u64],
-            Record::Top { cell } => [3, cell, 0, 0],
-            Record::Table { cell } => [4, cell, 0, 0],
-            Record::Held { cell } => [5, cell, 0, 0],
-            Record::Spare { cell } => [6, cell, 0, 0],
-        }
-    }
 }
 
 // Makes a page something: a cell with nothing measured, a thread with no registers, a table with nothing in it.
