@@ -1,4 +1,5 @@
-// The monitor's memory: a header, and a record for each closed page.
+// The monitor's memory: a header, and a record for each closed page. The caller lends it at each call, so each function is
+// passed it, and a page's number where it is about one.
 #![tactic(auto)]
 
 mod packing;

@@ -23,7 +23,7 @@ pub fn pack(slot: Slot) -> u64
     }
 }
 
-// The slot that a number stands for.
+// The slot that a number stands for. No `From`, since it stands beside `pack`, which can't be one: not every slot has a number.
 pub fn unpack(number: u64) -> Slot
     ensures { slot_of result ≡ slot_from number }
 {
@@ -51,7 +51,7 @@ pub fn place_word(place: Place) -> u32
     (table << 22) | (slot << 12) | ((place.run as u32) << 2) | ((place.write as u32) << 1) | 1
 }
 
-// The place that a word stands for.
+// The place that a word stands for. No `From`, since a place is a type of `fields`.
 pub fn place_from(word: u32) -> Place
     ensures { place_of result ≡ place_from word }
 {
