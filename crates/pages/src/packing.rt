@@ -24,6 +24,7 @@ pub fn pack(slot: Slot) -> u64
 }
 
 // The slot that a number stands for. No `From`, since it stands beside `pack`, which can't be one: not every slot has a number.
+#[tactic(auto, using(std::proofs::lemmas::Nat::and_mask))]
 pub fn unpack(number: u64) -> Slot
     ensures { slot_of result ≡ slot_from number }
 {
@@ -52,6 +53,7 @@ pub fn place_word(place: Place) -> u32
 }
 
 // The place that a word stands for. No `From`, since a place is a type of `fields`.
+#[tactic(auto, using(std::proofs::lemmas::Nat::and_mask))]
 pub fn place_from(word: u32) -> Place
     ensures { place_of result ≡ place_from word }
 {

@@ -28,6 +28,7 @@ fn numbers<const N: usize>(memory: &[u64], page: u64, index: usize) -> [u64; N]
 }
 
 // The low 32 bits of a number.
+#[tactic(auto, using(std::proofs::lemmas::Nat::and_mask))]
 fn low(number: u64) -> u32
     ensures { result ≡ number % 4294967296 }
 {
