@@ -15,7 +15,7 @@ use Rattle.model.specs.State.{Limits, State, entry, apply, apply_all, put_entry,
 use Rattle.model.specs.Refusals.{failing, system_checks, cell_there, open_there, vacant}
 use Rattle.model.specs.Invariant.{Live, EntryFits}
 use Rattle.model.specs.Monitor.{system_edits, copied, becomes_held, becomes_table}
-use Rattle.model.proofs.Lists.{get_d_any}
+use Rattle.std.proofs.lemmas.List.{get_or_default}
 use Rattle.model.proofs.Effects.{passes}
 use Rattle.model.proofs.SameBuilt.{copied_long}
 use Rattle.pages.specs.Flat.{flat, page_put}
@@ -181,7 +181,7 @@ module _ (l : Limits) (s : State) (k : Known l s) where
   source_right None h = ap (λ n. replicate n 0) (sym k.sized.words_are)
   source_right (Some o) h =
       let g : o < length s.open_pages = omega (arith, ltb-true o l.opens h, k.invariant.opens_long) in
-      pages_written.read s.open_pages o (opens_wide l s k) g ∙ get_d_any s.open_pages o [] (state.zeros l) g
+      pages_written.read s.open_pages o (opens_wide l s k) g ∙ get_or_default s.open_pages o [] (state.zeros l) g
 
   copied_1024 : (o : Option ℕ) → length (copied l s o) ≡ 1024
   copied_1024 o = copied_long l s o k.invariant ∙ k.sized.words_are

@@ -89,7 +89,7 @@ fn measured(memory: &[u64], cell: u64, at: InRange, words: &[u32]) -> Measure
 {
     pages::measure_at(memory, cell)
         .two_words(4, pages::place_word(at.place))
-        .page(words)
+        .extend(words)
 }
 
 // A cell holds a page, with the words of an open one, or zeros, and sees it at a place.
