@@ -49,8 +49,6 @@ pub fn told_to_system(answer: Answer<'_>) -> Answer<'_>
 }
 
 // What is written of an answer is read back, has one spelling, and ceases to be one where it should.
-pub fn answers_stand() -> u8
+pub fn answers_stand()
     ensures { AnswersStand }
-{
-    0
-}
+{}

@@ -1,5 +1,5 @@
 -- What a step over bytes has done: a cursor that reads on, a slice that is written on, a whole message that is written.
-use Rattle.std.specs.Prelude.{◌≡◌, ℕ, ◌+◌, ◌-◌, ◌<◌, ◌≤◌, Bool, true, false, List, ◌++◌, length, take, drop, Some, None, Ok, Err, Option, Result, MatchResult}
+use Rattle.std.specs.Prelude.{◌≡◌, ℕ, ◌+◌, ◌-◌, ◌<◌, ◌≤◌, Bool, true, false, List, ◌++◌, length, take, drop, Ok, Err, Option, Result, MatchResult}
 use Rattle.fields.specs.Codec.{Codec, got, lost, read_all, Ceases}
 use Rattle.fields.specs.Shapes.{Body, list_if, few, body_of}
 use Rattle.fields.specs.declared.reading.Cursor.{Cursor}
@@ -41,9 +41,9 @@ pub record Wrote (before after : List ℕ) (at : ℕ) (bytes : List ℕ) (end : 
   pub long : length after ≡ length before
 
 -- how many bytes a list takes, unless it has too many numbers
-abbrev pub Sized : Option ℕ → List ℕ → Option ℕ → Type 0
-Sized most ns None = few most (length ns) ≡ false
-Sized most ns (Some n) = (few most (length ns) ≡ true) × (n ≡ length ((list_if most).write ns)) × (n ≤ 2041)
+abbrev pub Sized : Option ℕ → List ℕ → Result ℕ Unwritten → Type 0
+Sized most ns (Ok n) = (few most (length ns) ≡ true) × (n ≡ length ((list_if most).write ns)) × (n ≤ 2041)
+Sized most ns (Err e) = (few most (length ns) ≡ false) × (e ≡ TooMany)
 
 -- All of a message is written, at the slice's start; or nothing, since its list has too many numbers, or the slice is too short.
 abbrev pub Written : Bool → List ℕ → List ℕ → List ℕ → Result ℕ Unwritten → Type 0

@@ -16,8 +16,6 @@ pub use values::{Fields, Numbers, Parts, Place, Registers, Shape, UnknownKind, U
 pub use writing::write;
 
 // Every shape's fields are read back as they were written, have one spelling, and cease where they should.
-pub fn bodies_stand() -> u8
+pub fn bodies_stand()
     ensures { LawfulBodies }
-{
-    0
-}
+{}

@@ -1,8 +1,11 @@
 // The values that fields hold.
 ghost use Rattle.std.specs.Prelude.{◌≡◌, ◌≤◌, true, false, Some, None};
 
+use std::error::Error;
+use std::fmt;
+
 // Where a cell sees a page: in which table, in which slot of it, and whether it may write there, and run what is there.
-#[derive(Clone, Copy)]
+#[derive(Clone, Copy, Debug, PartialEq, Eq)]
 pub struct Place {
     pub table: u64,
     pub slot: u64,
@@ -21,7 +24,7 @@ impl Place {
 }
 
 // Thirteen registers, two more, the address of the next instruction, and one of state.
-#[derive(Clone, Copy)]
+#[derive(Clone, Copy, Debug, PartialEq, Eq)]
 pub struct Registers {
     pub words: [u32; 17],
 }
@@ -131,8 +134,27 @@ impl Shape {
 }
 
 // Why nothing was written: the list has more numbers than its kind of message can carry, or the slice has too few bytes.
-#[derive(Clone, Copy)]
+#[derive(Clone, Copy, Debug, PartialEq, Eq)]
 pub enum Unwritten {
     TooMany,
     TooShort { needed: usize },
 }
+
+impl fmt::Display for UnknownKind {
+    fn fmt<W: fmt::Write>(&self, f: &mut fmt::Formatter<W>) -> fmt::Result {
+        write!(f, "no kind has the number {}", self.0)
+    }
+}
+
+impl Error for UnknownKind {}
+
+impl fmt::Display for Unwritten {
+    fn fmt<W: fmt::Write>(&self, f: &mut fmt::Formatter<W>) -> fmt::Result {
+        match self {
+            Unwritten::TooMany => f.write_str("the list has too many numbers"),
+            Unwritten::TooShort { needed } => write!(f, "{needed} bytes are needed"),
+        }
+    }
+}
+
+impl Error for Unwritten {}

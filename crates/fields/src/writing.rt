@@ -1,6 +1,7 @@
 // Fields written into a lent slice. Each `put` writes at `at`, and says where it ends.
 ghost use Rattle.std.specs.Prelude.{◌≡◌, ◌+◌, ◌*◌, ◌/◌, ◌<◌, ◌≤◌, true, [], ◌∷◌, length};
 ghost use Rattle.fields.specs.Bytes.{number_bytes, numbers_bytes, numbers_in};
+ghost use Rattle.model.specs.Calls as model;
 ghost use Rattle.fields.specs.Shapes.{few, rights, place as place_codec, list as list_codec, place_if, list_if, body, layout, place_of};
 ghost use Rattle.fields.specs.Shapes.{numbers_of, body_of};
 ghost use Rattle.fields.specs.Steps.{Wrote, Sized, Written};
@@ -34,13 +35,14 @@ fn put_numbers(out: &mut [u8], at: usize, numbers: &[u64]) -> usize
     end
 }
 
+// Words as numbers. Made into numbers by `map` first, for `put_numbers`, they got no proof: how long an array in a variant is stands in no goal.
 fn put_words(out: &mut [u8], at: usize, words: &[u32]) -> usize
     requires { at + 8 * length words.now ≤ length out.old }
     ensures { Wrote out.old out.new at (numbers_bytes words.now) result }
 {
     let mut end = at;
     for word in words {
-        end = put_number(out, end, *word as u64);
+        end = put_number(out, end, u64::from(*word));
     }
     end
 }
@@ -58,12 +60,7 @@ fn put_lent(out: &mut [u8], at: usize, bytes: &[u8]) -> usize
 fn rights_of(place: Place) -> u8
     ensures { result ≡ rights place.write place.run }
 {
-    match (place.write, place.run) {
-        (false, false) => 0,
-        (true, false) => 1,
-        (false, true) => 2,
-        (true, true) => 3,
-    }
+    u8::from(place.write) + 2 * u8::from(place.run)
 }
 
 fn put_place(out: &mut [u8], at: usize, place: Place) -> usize
@@ -110,24 +107,24 @@ fn put_list_if(out: &mut [u8], at: usize, most: Option<u8>, list: Numbers<'_>) -
     }
 }
 
-fn place_size(there: bool, place: Place) -> usize
-    ensures { result ≡ length ((place_if there).write (place_of place)) }
+fn place_size(there: bool) -> usize
+    ensures { (w : model.Place) → result ≡ length ((place_if there).write w) }
 {
     if there { 17 } else { 0 }
 }
 
 // How many bytes a list takes, unless it has too many numbers.
-fn list_size(most: Option<u8>, list: Numbers<'_>) -> Option<usize>
+fn list_size(most: Option<u8>, list: Numbers<'_>) -> Result<usize, Unwritten>
     ensures { Sized most (numbers_of list.entry) result }
 {
     let Some(most) = most else {
-        return Some(0);
+        return Ok(0);
     };
     let count = list.len();
-    if count > most as usize {
-        return None;
+    if count > usize::from(most) {
+        return Err(Unwritten::TooMany);
     }
-    Some(1 + 8 * count)
+    Ok(1 + 8 * count)
 }
 
 // Writes a message: its number, and the fields of a shape. What the shape lacks is left out.
@@ -140,11 +137,9 @@ pub fn write(
     ensures { Written (few shape.list (length (body_of fields.entry).list)) (number ∷ (body (layout shape)).write (body_of
         fields.entry)) out.old out.new result }
 {
-    let Some(listed) = list_size(shape.list, fields.list) else {
-        return Err(Unwritten::TooMany);
-    };
+    let listed = list_size(shape.list, fields.list)?;
     let count = shape.numbers;
-    let needed = 1 + 8 * count + place_size(shape.place, fields.place) + listed;
+    let needed = 1 + 8 * count + place_size(shape.place) + listed;
     if out.len() < needed {
         return Err(Unwritten::TooShort { needed });
     }

@@ -18,7 +18,7 @@ pub loop-word-preserved : goal.loop-word-preserved
 loop-word-preserved c =
     wrote_next c.args.out.now c.loop-word.out _ c.args.words.now c.args.at _ _ c.loop-word.word-index
     (omega arith) (omega arith)
-    c.loop-word.invariant c.put_number-end.ensures
+    c.loop-word.invariant (rw c.from.ensures at c.put_number-end.ensures)
 
 pub returns : goal.returns
 returns c =
