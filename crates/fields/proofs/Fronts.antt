@@ -1,5 +1,5 @@
 -- What the pieces read, under the tests that the code makes.
-use Rattle.std.proofs.Common.{◌≡◌, ℕ, zero, suc, ◌+◌, ◌-◌, ◌*◌, ◌/◌, ◌%◌, ◌<◌, ◌≤◌, Bool, cond, eqb, ltb, leb, List, [], ◌∷◌, ◌++◌, length, get_or, take, drop, replicate, Some, Ok, Err, refl, ap, ◌∙◌, ⊎_elim, add-one, arith, length-drop, length-take, le-ltb, lt-ltb, le-leb}
+use Rattle.std.proofs.Common.{◌≡◌, ℕ, zero, suc, ◌+◌, ◌-◌, ◌*◌, ◌/◌, ◌%◌, ◌<◌, ◌≤◌, Bool, cond, eqb, ltb, leb, List, [], ◌∷◌, ◌++◌, length, get_or, take, drop, replicate, Some, Ok, Err, sym, refl, ap, ◌∙◌, ⊎_elim, add-one, arith, length-drop, length-take, le-ltb, lt-ltb, le-leb}
 use borrow.Author.Tests.{lt-leb}
 use Rattle.std.proofs.lemmas.Bool.{cases_lt}
 use Rattle.std.proofs.lemmas.List.{drop_more, drop_all, drop-drop, drop-take, get_or-take}
@@ -9,8 +9,8 @@ use Rattle.std.specs.Simd.{first_chunks}
 use Rattle.fields.specs.Bytes.{number_in, numbers_in}
 use Rattle.fields.specs.Codec.{Got, got, lost, read_byte, numbers, closed}
 use Rattle.fields.specs.Shapes.{padded, place, list, place_if, list_if, body, layout, place_of, numbers_of, body_of}
-use Rattle.fields.specs.Steps.{all_of, rest_of, Read}
-use Rattle.fields.specs.declared.reading.Cursor.{Cursor}
+use Rattle.fields.specs.Steps.{rest_of, Read}
+use Rattle.fields.specs.declared.cursor.Cursor.{Cursor}
 use Rattle.fields.specs.declared.values.Fields.{Fields}
 use Rattle.fields.specs.declared.values.Shape.{Shape}
 
@@ -137,12 +137,14 @@ part_numbers n k bs e h =
     rw l (numbers_take n k bs (omega arith))
 
 -- a shape's fields, one after another
-pub body_there : (f : Fields) (s : Shape) (r a b e : Cursor) → Read (padded s.numbers) (λ v. v) r (Ok f.numbers) a →
-    Read (place_if s.place) place_of a (Ok f.place) b → Read (list_if s.list) numbers_of b (Ok f.list) e →
-    (body (layout s)).read (rest_of r) ≡ got (body_of f) (drop e.at (all_of r))
-body_there f s r a b e n p l =
+pub body_there : (f : Fields) (s : Shape) (bs : List ℕ) (r a b e : Cursor) → r.bytes.now ≡ bs → r.at ≡ 0 →
+    Read (padded s.numbers) (λ v. v) r (Ok f.numbers) a → Read (place_if s.place) place_of a (Ok f.place) b →
+    Read (list_if s.list) numbers_of b (Ok f.list) e → (body (layout s)).read bs ≡ got (body_of f) (drop e.at bs)
+body_there f s bs r a b e from start n p l =
     let same : e.bytes ≡ r.bytes = l.0 ∙ p.0 ∙ n.0 in
-    rw (n.1, p.1, l.1) (ap (λ x. got (body_of f) (drop e.at x.now)) same)
+    let rest : rest_of r ≡ bs = ap (λ k. drop k r.bytes.now) start ∙ from in
+    let all : (body (layout s)).read (rest_of r) ≡ got (body_of f) (drop e.at e.bytes.now) = rw (n.1, p.1, l.1) refl in
+    ap (body (layout s)).read (sym rest) ∙ all ∙ ap (λ x. got (body_of f) (drop e.at x.now)) same ∙ ap (λ x. got (body_of f) (drop e.at x)) from
 
 pub closed_long : {A : Type 0} (g : Got A) (v : A) (bs : List ℕ) (at : ℕ) → g ≡ got v (drop at bs) → at < length bs →
     closed (length bs) g ≡ Err at

@@ -2,7 +2,7 @@
 use Rattle.std.specs.Prelude.{◌≡◌, ℕ, ◌+◌, ◌-◌, ◌<◌, ◌≤◌, Bool, true, false, List, ◌++◌, length, take, drop, Ok, Err, Option, Result, MatchResult}
 use Rattle.fields.specs.Codec.{Codec, got, lost, read_all, Ceases}
 use Rattle.fields.specs.Shapes.{Body, list_if, few, body_of}
-use Rattle.fields.specs.declared.reading.Cursor.{Cursor}
+use Rattle.fields.specs.declared.cursor.Cursor.{Cursor}
 use Rattle.fields.specs.declared.values.Parts.{Parts}
 use Rattle.fields.specs.declared.values.Unwritten.{Unwritten}
 use Rattle.fields.specs.declared.values.Unwritten.TheVariants.{TooMany, TooShort}
@@ -16,7 +16,7 @@ rest_of r = drop r.at r.bytes.now
 
 -- It read what the codec reads, as f sees it, and stands behind it; or it says where the bytes cease to be that.
 abbrev pub Read : {A B : Type 0} → Codec A → (B → A) → Cursor → Result B ℕ → Cursor → Type 0
-Read c f r (Ok v) s = (s.bytes ≡ r.bytes) × (c.read (rest_of r) ≡ got (f v) (rest_of s)) × (s.at ≤ length (all_of r))
+Read c f r (Ok v) s = (s.bytes ≡ r.bytes) × (c.read (rest_of r) ≡ got (f v) (rest_of s))
 Read c f r (Err k) s = (c.read (rest_of r) ≡ lost (length (all_of r) - k)) × (k ≤ length (all_of r))
 
 -- a result whose value f sees

@@ -1,6 +1,7 @@
 // The fields of calls and answers, read from bytes and written to them.
 #![tactic(auto)]
 
+mod cursor;
 mod messages;
 mod numbers;
 mod reading;

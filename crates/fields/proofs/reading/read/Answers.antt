@@ -1,3 +1,4 @@
+use Rattle.std.proofs.Common.{ap}
 use Rattle.fields.proofs.Fronts.{body_there, closed_long, closed_whole}
 use Rattle.fields.proofs.reading.read.Goals as goal
 
@@ -6,8 +7,8 @@ returns-then-cursor-bytes c =
     closed_long _ _ c.args.bytes.now _
     (body_there
     (record { numbers = c.in_ok-numbers.numbers; place = c.in_ok-place.place; list = c.in_ok-list.list })
-    c.args.shape (record { bytes = c.args.bytes; at = 0 }) c.numbers.new.self c.place_if.new.self c.list_if.new.self
-    c.in_ok-numbers.ensures c.in_ok-place.ensures c.in_ok-list.ensures)
+    c.args.shape c.args.bytes.now c.new-cursor.result c.numbers.new.self c.place_if.new.self c.list_if.new.self
+    (ap (λ b. b.now) c.new-cursor.ensures.0) c.new-cursor.ensures.1 c.in_ok-numbers.ensures c.in_ok-place.ensures c.in_ok-list.ensures)
     c.if-cursor-bytes.true
 
 pub returns : goal.returns
@@ -15,6 +16,6 @@ returns c =
     closed_whole _ _ c.args.bytes.now _
     (body_there
     (record { numbers = c.in_ok-numbers.numbers; place = c.in_ok-place.place; list = c.in_ok-list.list })
-    c.args.shape (record { bytes = c.args.bytes; at = 0 }) c.numbers.new.self c.place_if.new.self c.list_if.new.self
-    c.in_ok-numbers.ensures c.in_ok-place.ensures c.in_ok-list.ensures)
+    c.args.shape c.args.bytes.now c.new-cursor.result c.numbers.new.self c.place_if.new.self c.list_if.new.self
+    (ap (λ b. b.now) c.new-cursor.ensures.0) c.new-cursor.ensures.1 c.in_ok-numbers.ensures c.in_ok-place.ensures c.in_ok-list.ensures)
     c.if-cursor-bytes.false

@@ -3,7 +3,7 @@ use Rattle.std.proofs.lemmas.List.{drop-drop}
 use Rattle.fields.specs.Codec.{lost, got}
 use Rattle.fields.specs.Steps.{rest_of}
 use Rattle.fields.proofs.Fronts.{padded_short, padded_there}
-use Rattle.fields.proofs.reading.Cursor.numbers.Goals as goal
+use Rattle.fields.proofs.cursor.Cursor.numbers.Goals as goal
 
 pub returns-then-self-count : goal.returns-then-self-count
 returns-then-self-count c =
@@ -18,5 +18,4 @@ returns c =
       padded_there n (drop at bs) (simp length-drop (omega arith))
           ∙ ap (λ v. got v (drop (8 * n) (drop at bs))) (sym c.numbers_at-all.ensures)
           ∙ ap (got c.numbers_at-all.result) (drop-drop (8 * n) at bs),
-      omega arith,
     )

@@ -4,7 +4,7 @@ use Rattle.fields.specs.Bytes.{number_in}
 use Rattle.fields.specs.Codec.{lost}
 use Rattle.fields.specs.Steps.{rest_of}
 use Rattle.fields.proofs.Fronts.{place_short, place_bad, place_there}
-use Rattle.fields.proofs.reading.Cursor.place.Goals as goal
+use Rattle.fields.proofs.cursor.Cursor.place.Goals as goal
 
 pub returns-then-self-lt17 : goal.returns-then-self-lt17
 returns-then-self-lt17 c =
@@ -27,5 +27,4 @@ returns c =
     ∙ sym c.number_at-slot.ensures in (
       refl,
       place_there (drop at bs) (simp length-drop (omega arith)) (omega arith) ∙ rw (b, t, s, drop-drop 17 at bs) refl,
-      omega arith,
     )

@@ -1,7 +1,7 @@
 use Rattle.std.proofs.Common.{ℕ, ◌+◌, ◌*◌, List, get_or, drop, sym, refl, ap, ◌∙◌, arith, length-drop}
 use Rattle.fields.specs.Codec.{lost, got}
 use Rattle.fields.proofs.Fronts.{list_none, list_many, list_short, list_there, part_numbers}
-use Rattle.fields.proofs.reading.Cursor.list.Goals as goal
+use Rattle.fields.proofs.cursor.Cursor.list.Goals as goal
 
 pub returns-then-self : goal.returns-then-self
 returns-then-self c =
@@ -27,5 +27,4 @@ returns c =
       list_there c.args.most at bs (omega arith) (omega arith) (omega arith)
           ∙ ap (λ ns. got ns (drop (at + 1 + 8 * n) bs)) (sym (part_numbers n _ (drop (at + 1) bs) (omega arith) (simp length-drop
           (omega arith)))),
-      omega arith,
     )
