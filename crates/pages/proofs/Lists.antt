@@ -1,13 +1,27 @@
 -- Parts of lists, read and written.
-use Rattle.std.proofs.Common.{◌≡◌, ℕ, zero, suc, ◌+◌, ◌-◌, ◌<◌, ◌≤◌, List, [], ◌∷◌, ◌++◌, map, length, get_or, take, drop, set, replicate, sym, refl, ap, ◌∙◌, append_assoc, add-zero, add-one, arith, length-append, length-drop, length-take}
+use Rattle.std.proofs.Common.{◌≡◌, ℕ, zero, suc, ◌+◌, ◌-◌, ◌<◌, ◌≤◌, List, [], ◌∷◌, ◌++◌, map, length, get_or, take, drop, set, replicate, sym, refl, ap, ◌∙◌, append_assoc, add-zero, add-one, arith, length-append, length-drop, length-take, ◌*◌, ap₂, add_assoc}
 use lib.ListN.{length-replicate}
 use borrow.Rule.Slice.PartMut.{put_mid}
-use Rattle.std.proofs.lemmas.List.{drop-drop, drop_at, get_or-take, get_or-drop, take_all, append-nil, take-append-le, drop-append-le, take-replicate, length-take-le, set-append_left, set_split, drop_all}
+use Rattle.std.proofs.lemmas.List.{drop-drop, drop_at, get_or-take, get_or-drop, take_all, append-nil, take-append-le, drop-append-le, take-replicate, length-take-le, set-append_left, set_split, drop_all, take_more_set, map_more}
 use Rattle.pages.specs.Layout.{padded}
 use Rattle.pages.specs.Flat.{list_put, HasWords, page_in}
+use Rattle.pages.specs.Rows.{number_at, numbers_at}
 
 pub width : (a n : ℕ) → a + n - a ≡ n
 width a n = omega arith
+
+-- one more word read into an array by a loop
+pub read_more : (f : ℕ → ℕ) (got ws : List ℕ) (i v : ℕ) → i < length got → i < length ws → take i got ≡ map f (take i ws) →
+    v ≡ f (get_or ws i 0) → take (i + 1) (set got i v) ≡ map f (take (i + 1) ws)
+read_more f got ws i v h g q e = take_more_set got i v h ∙ ap₂ (λ xs x. xs ++ x ∷ []) q e ∙ sym (map_more f ws i 0 g)
+
+pub numbers_nth : (m : List ℕ) (p k n i : ℕ) → i < n → get_or (numbers_at m p k n) i 0 ≡ number_at m p (k + i)
+numbers_nth m p k n i h =
+    get_or-take n (drop (256 + p * 2048 + k) m) i 0 h ∙ get_or-drop (256 + p * 2048 + k) m i 0
+    ∙ ap (λ j. get_or m j 0) (add_assoc (256 + p * 2048) k i)
+
+pub length_numbers : (m : List ℕ) (p k n : ℕ) → 256 + p * 2048 + k + n ≤ length m → length (numbers_at m p k n) ≡ n
+length_numbers m p k n h = simp (length-take, length-drop) (omega arith)
 
 pub length_page : (all : List ℕ) (p : ℕ) → HasWords all p → length (page_in all p) ≡ 1024
 length_page all p h = simp (length-take, length-drop) (omega arith)

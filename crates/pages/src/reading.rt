@@ -99,14 +99,16 @@ pub fn running(memory: &[u64]) -> Option<u64>
     memory[8].checked_sub(1)
 }
 
-// A thread's registers.
+// A thread's registers. By a loop, for the reason that `wide` has: there an array's `map` was timed.
 pub fn registers_at(memory: &[u64], thread: u64) -> Registers
     requires { HasPage memory.now thread }
     ensures { result.words ≡ low_words (numbers_at memory.now thread 4 17) }
 {
-    Registers {
-        words: numbers::<17>(memory, thread, LIST).map(low),
+    let mut words = [0; 17];
+    for i in 0..17 {
+        words[i] = low(number(memory, thread, LIST + i));
     }
+    Registers { words }
 }
 
 // What was measured of a cell.

@@ -63,13 +63,24 @@ pub fn put_phase(memory: &mut [u64], cell: u64, phase: Phase)
     put_number(memory, cell, 3, u64::from(phase));
 }
 
+// Registers as numbers. By a loop: with `registers.words.map(u64::from)` a call that puts them took 99 nanoseconds in place of 26.
+fn wide(registers: Registers) -> [u64; 17]
+    ensures { result ≡ registers.words }
+{
+    let mut numbers = [0; 17];
+    for i in 0..17 {
+        numbers[i] = registers.words[i] as u64;
+    }
+    numbers
+}
+
 // Puts whether a thread is under way, and its registers.
 pub fn put_thread(memory: &mut [u64], thread: u64, under_way: bool, registers: Registers)
     requires { HasPage memory.old thread }
     ensures { memory.new ≡ thread_put memory.old thread under_way registers.words }
 {
     put_number(memory, thread, 3, under_way as u64);
-    put_numbers(memory, thread, LIST, &registers.words.map(u64::from));
+    put_numbers(memory, thread, LIST, &wide(registers));
 }
 
 // Puts what was measured of a cell.
