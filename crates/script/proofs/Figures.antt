@@ -1,39 +1,11 @@
--- How digits are read one by one.
-use Rattle.std.proofs.Common.{◌≡◌, ℕ, ◌+◌, ◌-◌, ◌*◌, ◌^◌, ◌<◌, ◌≤◌, true, ◌&&◌, eqb, ltb, leb, List, [], ◌∷◌, length, get_or, drop, Some, None, decimal, Option, sym, refl, ap, ◌∙◌, ⊎_elim, subst, arith, rules, ltb-true, le-ltb, lt-ltb, eq-eqb, ne_eqb, eqb-true, le-leb}
-use borrow.Author.Tests.{lt-leb, eqb-false}
+-- How words are numbers.
+use Rattle.std.proofs.Common.{◌≡◌, ℕ, ◌+◌, ◌-◌, ◌*◌, ◌^◌, ◌<◌, ◌≤◌, true, ◌&&◌, eqb, ltb, leb, List, [], ◌∷◌, length, get_or, Some, None, decimal, Option, sym, refl, ap, ◌∙◌, ⊎_elim, subst, arith, rules, ltb-true, lt-ltb, eq-eqb, ne_eqb, eqb-true}
+use borrow.Author.Tests.{eqb-false}
 use Rattle.std.specs.Str.{all_ascii_digits}
 use Rattle.std.proofs.lemmas.Str.Parse.{IsNumeralModel, numerals_by_fold}
 use Rattle.std.proofs.lemmas.Fmt.{decimal_digit, decimal_nonempty, first_decimal, digits_decimal, digits_value-decimal, decimal-digits_value}
 use Rattle.std.proofs.lemmas.Bool.{and_parts, and_from, cases_Bool, cases_eq}
-use Rattle.std.proofs.lemmas.List.{drop_more, drop_all}
 use Rattle.script.specs.Numerals.{digits_on, zero_alone, number_of}
-
--- one digit more, or a byte that ends it: `all` is what the whole word comes to
-module _ (n i : ℕ) (cs : List ℕ) (all : Option ℕ) (so_far : digits_on n (drop i cs) ≡ all) where
-  pub digits_end : length cs ≤ i → Some n ≡ all
-  digits_end h = sym (ap (digits_on n) (drop_all i cs h)) ∙ so_far
-
-  module _ (there : i < length cs) where
-    here : digits_on n (get_or cs i 0 ∷ drop (i + 1) cs) ≡ all
-    here = sym (ap (digits_on n) (drop_more cs i 0 there)) ∙ so_far
-
-    pub digit_low : get_or cs i 0 < 48 → None ≡ all
-    digit_low h = rw (lt-leb 48 (get_or cs i 0) h) at here
-
-    module _ (low : 48 ≤ get_or cs i 0) where
-      pub digit_high : 57 < get_or cs i 0 → None ≡ all
-      digit_high h = rw (le-leb 48 (get_or cs i 0) low, lt-leb (get_or cs i 0) 57 h) at here
-
-      module _ (high : get_or cs i 0 ≤ 57) where
-        pub digit_large : 2 ^ 64 ≤ 10 * n + (get_or cs i 0 - 48) → None ≡ all
-        digit_large h =
-            let size = le-ltb (10 * n + (get_or cs i 0 - 48)) (2 ^ 64) h in
-            rw (le-leb 48 (get_or cs i 0) low, le-leb (get_or cs i 0) 57 high, size) at here
-
-        pub digit_more : 10 * n + (get_or cs i 0 - 48) < 2 ^ 64 → digits_on (10 * n + (get_or cs i 0 - 48)) (drop (i + 1) cs) ≡ all
-        digit_more h =
-            let size = lt-ltb (10 * n + (get_or cs i 0 - 48)) (2 ^ 64) h in
-            rw (le-leb 48 (get_or cs i 0) low, le-leb (get_or cs i 0) 57 high, size) at here
 
 -- a word by its first byte
 pub number_none : (w : List ℕ) → length w ≡ 0 → number_of w ≡ None

@@ -1,12 +1,11 @@
 -- What each word is, up to a line's end, one by one.
-use Rattle.std.proofs.Common.{◌≡◌, ℕ, ◌+◌, ◌*◌, ◌<◌, ◌≤◌, List, [], ◌∷◌, ◌++◌, length, Some, None, Option, sym, refl, ap, ◌∙◌, append_assoc, arith, length-append}
-use borrow.Author.Tests.{lt-leb}
+use Rattle.std.proofs.Common.{◌≡◌, ℕ, ◌+◌, ◌*◌, ◌<◌, ◌≤◌, List, [], ◌∷◌, ◌++◌, length, Some, None, Option, sym, refl, ap, ◌∙◌, append_assoc, arith}
 use Rattle.fields.specs.Bytes.{number_bytes, numbers_bytes}
 use Rattle.fields.specs.Steps.{Wrote}
 use Rattle.fields.proofs.Pieces.{length_numbers_bytes}
 use Rattle.fields.proofs.Puts.{wrote_more, wrote_is}
 use Rattle.std.specs.Option.{option_map}
-use Rattle.script.specs.Lines.{before, each, at_most}
+use Rattle.script.specs.Lines.{before, each}
 
 -- numbers in front of more, if there are any
 abbrev pub prefixed : List ℕ → Option (List ℕ) → Option (List ℕ)
@@ -20,20 +19,11 @@ prefixed_one : (ns : List ℕ) (n : ℕ) (o : Option (List ℕ)) → prefixed ns
 prefixed_one ns n None = refl
 prefixed_one ns n (Some more) = ap Some (sym (append_assoc ns (n ∷ []) more))
 
-too_many : (ns : List ℕ) (most : ℕ) (x : Option ℕ) (o : Option (List ℕ)) → length ns ≡ most → at_most most (prefixed ns (before x o)) ≡ None
-too_many ns most None o h = refl
-too_many ns most (Some n) None h = refl
-too_many ns most (Some n) (Some more) h =
-    let l : most < length (ns ++ (n ∷ more)) = rw length-append (omega arith) in rw (lt-leb _ most l) refl
-
 -- `all` is what all words come to, of which `ns` are those so far
 module _ (f : List ℕ → Option ℕ) (all : Option (List ℕ)) (ns : List ℕ) (ws : List (List ℕ)) (so_far : all ≡ prefixed ns (each f ws)) where
   module _ (w : List ℕ) (rest : List (List ℕ)) (cut : ws ≡ w ∷ rest) where
     here : all ≡ prefixed ns (before (f w) (each f rest))
     here = so_far ∙ ap (λ x. prefixed ns (each f x)) cut
-
-    pub series_many : (most : ℕ) → length ns ≡ most → at_most most all ≡ None
-    series_many most h = ap (at_most most) here ∙ too_many ns most (f w) (each f rest) h
 
     pub series_more : (n : ℕ) → f w ≡ Some n → all ≡ prefixed (ns ++ n ∷ []) (each f rest)
     series_more n e = here ∙ ap (λ x. prefixed ns (before x (each f rest))) e ∙ prefixed_one ns n (each f rest)

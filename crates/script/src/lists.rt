@@ -6,8 +6,12 @@ ghost use Rattle.script.specs.Words.{words_left};
 ghost use Rattle.script.specs.Lines.{word_of, registers, page_words};
 ghost use Rattle.script.specs.Said.{Listed, Interrupts, Filled};
 
+use crate::calling::CallBytes;
 use crate::numerals::number;
 use crate::words::Words;
+
+// The words of a page.
+pub type Page = [u32; 1024];
 
 fn put_number(bytes: &mut [u8], at: usize, number: u64)
     requires { at + 8 ≤ length bytes.old }
@@ -17,8 +21,7 @@ fn put_number(bytes: &mut [u8], at: usize, number: u64)
 }
 
 // Writes the numbers from the third byte on, and says how many there are.
-fn put_numbers(words: Words<'_>, bytes: &mut [u8]) -> Option<usize>
-    requires { 2042 ≤ length bytes.old }
+fn put_numbers(words: Words<'_>, bytes: &mut CallBytes) -> Option<usize>
     ensures { Listed (registers (words_left words.entry)) result bytes.old bytes.new }
 {
     let mut count = 0;
@@ -33,8 +36,7 @@ fn put_numbers(words: Words<'_>, bytes: &mut [u8]) -> Option<usize>
 }
 
 // Writes the call of an interrupt with these registers.
-pub fn put_interrupt(words: Words<'_>, bytes: &mut [u8]) -> Option<usize>
-    requires { 2042 ≤ length bytes.old }
+pub fn put_interrupt(words: Words<'_>, bytes: &mut CallBytes) -> Option<usize>
     ensures { Interrupts (registers (words_left words.entry)) result bytes.new }
 {
     let count = put_numbers(words, bytes)?;
@@ -51,8 +53,7 @@ fn word(text: &[u8]) -> Option<u32>
 }
 
 // The words of a page, and how many there are.
-pub fn put_words(words: Words<'_>, page: &mut [u32]) -> Option<usize>
-    requires { 1024 ≤ length page.old }
+pub fn put_words(words: Words<'_>, page: &mut Page) -> Option<usize>
     ensures { Filled (page_words (words_left words.entry)) result page.new }
 {
     let mut count = 0;

@@ -9,11 +9,11 @@ ghost use Rattle.script.specs.Lines.{taken_body, alone, meant, as_form, first_fo
 ghost use Rattle.script.specs.Fitting.{nothing_taken};
 ghost use Rattle.script.specs.Said.{Said, Back, Tried, Callable, Sound};
 
-use crate::calling::put_call;
+use crate::calling::{CallBytes, put_call};
 use crate::fitting::{Taken, fit};
 use crate::forms::{FORMS, Form, Kind};
 use crate::line::Line;
-use crate::lists::{put_interrupt, put_words};
+use crate::lists::{Page, put_interrupt, put_words};
 use crate::words::Words;
 use fields::Numbers;
 
@@ -27,9 +27,8 @@ fn ended(mut rest: Words<'_>) -> Option<()>
     }
 }
 
-fn call(number: u8, taken: Taken, rest: Words<'_>, bytes: &mut [u8]) -> Option<Line>
-    requires callable { Callable number (taken_body taken []) }
-    requires room { 2042 ≤ length bytes.old }
+fn call(number: u8, taken: Taken, rest: Words<'_>, bytes: &mut CallBytes) -> Option<Line>
+    requires { Callable number (taken_body taken []) }
     ensures { (ws : List ℕ) → Tried (meant (Kind.Call number) taken (words_left rest.entry)) result bytes.new ws }
 {
     ended(rest)?;
@@ -38,8 +37,7 @@ fn call(number: u8, taken: Taken, rest: Words<'_>, bytes: &mut [u8]) -> Option<L
 }
 
 // The third number is that of an open page to copy.
-fn hold_from(taken: Taken, rest: Words<'_>, bytes: &mut [u8]) -> Option<Line>
-    requires { 2042 ≤ length bytes.old }
+fn hold_from(taken: Taken, rest: Words<'_>, bytes: &mut CallBytes) -> Option<Line>
     ensures { (ws : List ℕ) → Tried (meant Kind.HoldFrom taken (words_left rest.entry)) result bytes.new ws }
 {
     ended(rest)?;
@@ -47,8 +45,7 @@ fn hold_from(taken: Taken, rest: Words<'_>, bytes: &mut [u8]) -> Option<Line>
     Some(Line::Call { length })
 }
 
-fn interrupt(rest: Words<'_>, bytes: &mut [u8]) -> Option<Line>
-    requires { 2042 ≤ length bytes.old }
+fn interrupt(rest: Words<'_>, bytes: &mut CallBytes) -> Option<Line>
     ensures { (ws : List ℕ) → Tried (meant Kind.Interrupt nothing_taken (words_left rest.entry)) result bytes.new ws }
 {
     let length = put_interrupt(rest, bytes)?;
@@ -65,8 +62,7 @@ fn limits(taken: Taken, rest: Words<'_>) -> Option<Line>
     })
 }
 
-fn write(open: bool, taken: Taken, rest: Words<'_>, page: &mut [u32]) -> Option<Line>
-    requires { 1024 ≤ length page.old }
+fn write(open: bool, taken: Taken, rest: Words<'_>, page: &mut Page) -> Option<Line>
     ensures { (bs : List ℕ) → Tried (meant (Kind.Write «open») taken (words_left rest.entry)) result bs page.new }
 {
     let count = put_words(rest, page)?;
@@ -89,11 +85,9 @@ fn print(open: bool, taken: Taken, rest: Words<'_>) -> Option<Line>
 
 // A line of one form.
 #[tactic(auto, unfolding(crate::specs::Lines::as_form))]
-fn read_as(form: &Form, text: &[u8], bytes: &mut [u8], words: &mut [u32]) -> Option<Line>
-    requires sound { Sound form.now.0 }
-    requires room { 2042 ≤ length bytes.old }
-    requires page { 1024 ≤ length words.old }
-    ensures { Tried (as_form (form_of form.now) (words_of text.now)) result bytes.new words.new }
+fn read_as(form: &Form, text: &[u8], bytes: &mut CallBytes, page: &mut Page) -> Option<Line>
+    requires { Sound form.now.0 }
+    ensures { Tried (as_form (form_of form.now) (words_of text.now)) result bytes.new page.new }
 {
     let mut rest = Words(text);
     let taken = fit(form.1, &mut rest)?;
@@ -102,20 +96,18 @@ fn read_as(form: &Form, text: &[u8], bytes: &mut [u8], words: &mut [u32]) -> Opt
         Kind::HoldFrom => hold_from(taken, rest, bytes),
         Kind::Interrupt => interrupt(rest, bytes),
         Kind::Limits => limits(taken, rest),
-        Kind::Write { open } => write(open, taken, rest, words),
+        Kind::Write { open } => write(open, taken, rest, page),
         Kind::Print { open } => print(open, taken, rest),
     }
 }
 
 // A line of the first of these forms that it is of.
-fn read_by(forms: &[Form], text: &[u8], bytes: &mut [u8], words: &mut [u32]) -> Option<Line>
-    requires sound { AllByRecursion (λ f. Sound f.0) forms.now }
-    requires room { 2042 ≤ length bytes.old }
-    requires page { 1024 ≤ length words.old }
-    ensures { Tried (first_form (map form_of forms.now) (words_of text.now)) result bytes.new words.new }
+fn read_by(forms: &[Form], text: &[u8], bytes: &mut CallBytes, page: &mut Page) -> Option<Line>
+    requires { AllByRecursion (λ f. Sound f.0) forms.now }
+    ensures { Tried (first_form (map form_of forms.now) (words_of text.now)) result bytes.new page.new }
 {
     for form in forms {
-        if let Some(line) = read_as(form, text, bytes, words) {
+        if let Some(line) = read_as(form, text, bytes, page) {
             return Some(line);
         }
     }
@@ -141,5 +133,11 @@ pub fn read(text: &[u8], bytes: &mut [u8], words: &mut [u32]) -> Line
     if is_skipped(text) {
         return Line::Skip;
     }
-    read_by(&FORMS, text, bytes, words).unwrap_or(Line::Unreadable)
+    let Some(bytes) = bytes.first_chunk_mut() else {
+        unreachable()
+    };
+    let Some(page) = words.first_chunk_mut() else {
+        unreachable()
+    };
+    read_by(&FORMS, text, bytes, page).unwrap_or(Line::Unreadable)
 }

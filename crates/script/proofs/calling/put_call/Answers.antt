@@ -1,3 +1,4 @@
+use Rattle.std.proofs.Common.{arith}
 use Rattle.fields.specs.Shapes.{body_of}
 use Rattle.calls.specs.Meaning.{call_of}
 use Rattle.script.specs.Lines.{call_with}
@@ -9,7 +10,7 @@ unfolding call_with
 unreachable-requires c =
     put_fails (call_of c.call_from.result) c.args.number (body_of c.args.fields) c.args.bytes.now c.write.new.out
     c.in-Err.field-0
-    c.call_from.ensures c.requires.callable c.requires.room c.in-Err.ensures
+    c.call_from.ensures c.requires (omega arith) c.in-Err.ensures
 
 pub returns : goal.returns
 unfolding call_with

@@ -21,5 +21,5 @@ loop-word-preserved c = (
   omega arith,
   numbers_step c.args.bytes.now c.loop-word.bytes _ c.loop-word.invariant.0 c.in_ok-number.field-0 c.loop-word.count
       (omega arith) (omega arith)
-      c.requires c.loop-word.invariant.4 c.put_number.ensures,
+      (omega arith) c.loop-word.invariant.4 c.put_number.ensures,
 )

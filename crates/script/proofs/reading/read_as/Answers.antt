@@ -2,5 +2,5 @@ use Rattle.script.specs.Lines.{taken_body}
 use Rattle.std.proofs.Common.{[], refl}
 use Rattle.script.proofs.reading.read_as.Goals as goal
 
-pub call-requires-clause-callable : goal.call-requires-clause-callable
-call-requires-clause-callable c = (rw c.in-Call.is at c.requires.sound) (taken_body c.in_ok-taken.taken []) refl
+pub call-requires : goal.call-requires
+call-requires c = (rw c.in-Call.is at c.requires) (taken_body c.in_ok-taken.taken []) refl
