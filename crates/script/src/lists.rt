@@ -20,7 +20,7 @@ fn put_number(bytes: &mut [u8], at: usize, number: u64)
     bytes[at..at + 8].copy_from_slice(&number.to_le_bytes());
 }
 
-// Writes the numbers from the third byte on, and says how many there are.
+// Writes the numbers from the third byte on, and says how many there are: what it returns is the count, which an `enumerate` would not leave.
 fn put_numbers(words: Words<'_>, bytes: &mut CallBytes) -> Option<usize>
     ensures { Listed (registers (words_left words.entry)) result bytes.old bytes.new }
 {
@@ -52,7 +52,7 @@ fn word(text: &[u8]) -> Option<u32>
     u32::try_from(number(text)?).ok()
 }
 
-// The words of a page, and how many there are.
+// The words of a page, and how many there are: the count is returned here too.
 pub fn put_words(words: Words<'_>, page: &mut Page) -> Option<usize>
     ensures { Filled (page_words (words_left words.entry)) result page.new }
 {
