@@ -123,7 +123,8 @@ module _ (l : Limits) (s : State) (k : Known l s) (c : ℕ) (y : model.Cell) (e 
         contents_long = length-set t.contents p _ ∙ h.contents_long;
         opens_long = h.opens_long;
         contents_wide = All-set (λ x. length x ≡ 1024) t.contents p _
-            (length-set (get_or t.contents p []) n v ∙ All-get_or (λ x. length x ≡ 1024) t.contents p [] low h.contents_wide) h.contents_wide;
+            (length-set (get_or t.contents p []) n v ∙ All-get_or (λ x. length x ≡ 1024) t.contents p [] low h.contents_wide)
+            h.contents_wide;
         opens_wide = h.opens_wide;
       }
   put_right w t n v (opened o false) h g f = h
@@ -138,7 +139,8 @@ module _ (l : Limits) (s : State) (k : Known l s) (c : ℕ) (y : model.Cell) (e 
         opens_long = length-set t.open_pages o _ ∙ h.opens_long;
         contents_wide = h.contents_wide;
         opens_wide = All-set (λ x. length x ≡ 1024) t.open_pages o _
-            (length-set (get_or t.open_pages o []) n v ∙ All-get_or (λ x. length x ≡ 1024) t.open_pages o [] low h.opens_wide) h.opens_wide;
+            (length-set (get_or t.open_pages o []) n v ∙ All-get_or (λ x. length x ≡ 1024) t.open_pages o [] low h.opens_wide)
+            h.opens_wide;
       }
 
   stores_same : (w : Words) (t : State) (a v : ℕ) → Has w t → Has ((lent (encode l s) y.top).store w a v) ((in_place c).store t a v)

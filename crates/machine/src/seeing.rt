@@ -20,8 +20,8 @@ const WORDS: usize = 1024;
 
 const PAGE_BYTES: u64 = 4096;
 
-// What is lent: the monitor's memory, a cell's top table in it, and the words of closed and of open pages. That it is whole is asked by each
-// method: with a model's invariant in its place, the caller of `run` would not learn which words are left in the slices.
+// What is lent: the monitor's memory, a cell's top table in it, and the words of closed and of open pages. Each method asks that it is
+// whole: with an invariant of a model in place of that, the caller of `run` would not learn which words are left in the slices.
 #[derive(Drop)]
 pub struct Lent<'a> {
     pub memory: &'a [u64],

@@ -1,11 +1,11 @@
 // One step, and so many of them.
-ghost use Rattle.std.specs.Prelude.{◌≡◌, ◌*◌, ◌<◌, length, Some, None, slice_index};
+ghost use Rattle.std.specs.Prelude.{◌≡◌, ◌*◌, length, Some, None, slice_index};
 ghost use Rattle.std.specs.Option.{option_map};
 ghost use Rattle.std.specs.Ordering.{ordering_index};
 ghost use Rattle.model.specs.Calls.{by_cell, fault};
 ghost use Rattle.calls.specs.Meaning.{call_of};
 ghost use Rattle.machine.specs.Held.{words_of, sees, Whole, Kept};
-ghost use Rattle.machine.specs.Lent.{Fit, Words};
+ghost use Rattle.machine.specs.Lent.{Fit};
 ghost use Rattle.machine.specs.Came.{left, ended_with, Comes, Runs, Refines};
 ghost use Rattle.machine.specs.Faults.{kind_number};
 ghost use Rattle.machine.specs.Instructions.{register, with_register, order, holds, asked, jumped, loaded, stored, executed, made_up};
