@@ -7,6 +7,3 @@ use Rattle.std.proofs.lemmas.List.{with_items_is}
 pub refilled_with : {X Z : Type 0} (v : Vec X Z) (ws lent : List X) → length ws ≡ length lent → lent ≡ v.items
     → (with_items v ws).items ≡ ws
 refilled_with v ws lent l f = with_items_is v ws (l ∙ ap length f ∙ sym v.ok.0)
-
-pub refilled_same : {X Z : Type 0} (v : Vec X Z) (ws lent : List X) → ws ≡ lent → lent ≡ v.items → (with_items v ws).items ≡ v.items
-refilled_same v ws lent e f = refilled_with v ws lent (ap length e) f ∙ e ∙ f
