@@ -4,6 +4,7 @@ use Rattle.std.specs.Option.{option_map}
 use Rattle.model.specs.Calls as model
 use Rattle.fields.specs.Shapes.{Body, place_of}
 use Rattle.fields.specs.Tables.{find, made}
+use Rattle.calls.specs.Kinds.{kind_number}
 use Rattle.calls.specs.Table.{table}
 use Rattle.script.specs.Words.{words}
 use Rattle.script.specs.Numerals.{number_of}
@@ -72,7 +73,7 @@ nth_number t k = slice_index t.numbers k
 
 -- what a form makes of what it took, and of the words behind it
 abbrev pub meant : Kind → Taken → List (List ℕ) → Option Line
-meant (Call n) t ws = alone (call (call_with n (taken_body t []))) ws
+meant (Call k) t ws = alone (call (call_with (kind_number k) (taken_body t []))) ws
 meant HoldFrom t ws = alone (call (call_with 4 (taken_body t (nth_number t 2 ∷ [])))) ws
 meant Interrupt t ws = option_map (λ ns. call (model.by_cell (model.interrupt ns))) (registers ws)
 meant Limits t ws = alone (limits (nth_number t 0) (nth_number t 1)) ws

@@ -5,6 +5,7 @@ use Rattle.fields.specs.Bytes.{numbers_bytes}
 use Rattle.fields.specs.Shapes.{Body}
 use Rattle.fields.specs.Tables.{find}
 use Rattle.fields.specs.Steps.{Wrote}
+use Rattle.calls.specs.Kinds.{kind_number}
 use Rattle.calls.specs.Table.{table, carried, write_call, read_call}
 use Rattle.script.specs.Lines as line
 use Rattle.script.specs.Lines.{call_with}
@@ -49,7 +50,7 @@ pub record Callable (n : ℕ) (f : Body) : Type 0 where
 
 -- a form of a call is of one that can be made of what forms take
 abbrev pub Sound : Kind → Type 0
-Sound (kind.Call n) = (f : Body) → f.list ≡ [] → Callable n f
+Sound (kind.Call k) = (f : Body) → f.list ≡ [] → Callable (kind_number k) f
 Sound kind.HoldFrom = Unit {0}
 Sound kind.Interrupt = Unit {0}
 Sound kind.Limits = Unit {0}

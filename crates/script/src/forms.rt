@@ -1,9 +1,11 @@
 // The forms of lines.
 
-// What a line of a form is: most are calls, by the call's number, with nothing behind the form's words.
+use calls::Kind as CallKind;
+
+// What a line of a form is: most are calls, of a kind, with nothing behind the form's words.
 #[derive(Clone, Copy)]
 pub enum Kind {
-    Call(u8),
+    Call(CallKind),
     HoldFrom,
     Interrupt,
     Limits,
@@ -17,27 +19,27 @@ pub struct Form(pub Kind, pub &'static [u8]);
 
 // The forms, in the order in which they are tried.
 pub static FORMS: [Form; 26] = [
-    Form(Kind::Call(0), b"how many"),
-    Form(Kind::Call(1), b"new cell # top #"),
-    Form(Kind::Call(2), b"new thread # in # from #"),
-    Form(Kind::Call(3), b"new table # in # at #"),
-    Form(Kind::Call(4), b"hold # in # at @"),
+    Form(Kind::Call(CallKind::HowMany), b"how many"),
+    Form(Kind::Call(CallKind::NewCell), b"new cell # top #"),
+    Form(Kind::Call(CallKind::NewThread), b"new thread # in # from #"),
+    Form(Kind::Call(CallKind::NewTable), b"new table # in # at #"),
+    Form(Kind::Call(CallKind::Hold), b"hold # in # at @"),
     Form(Kind::HoldFrom, b"hold # in # at @ from #"),
-    Form(Kind::Call(5), b"give # to #"),
-    Form(Kind::Call(6), b"show # in # at @"),
-    Form(Kind::Call(7), b"remove #"),
-    Form(Kind::Call(8), b"seal #"),
-    Form(Kind::Call(9), b"stop #"),
-    Form(Kind::Call(10), b"enter # with # # #"),
-    Form(Kind::Call(11), b"resume #"),
-    Form(Kind::Call(20), b"leave #"),
+    Form(Kind::Call(CallKind::Give), b"give # to #"),
+    Form(Kind::Call(CallKind::Show), b"show # in # at @"),
+    Form(Kind::Call(CallKind::Remove), b"remove #"),
+    Form(Kind::Call(CallKind::Seal), b"seal #"),
+    Form(Kind::Call(CallKind::Stop), b"stop #"),
+    Form(Kind::Call(CallKind::Enter), b"enter # with # # #"),
+    Form(Kind::Call(CallKind::Resume), b"resume #"),
+    Form(Kind::Call(CallKind::Leave), b"leave #"),
     Form(Kind::Interrupt, b"interrupt"),
-    Form(Kind::Call(22), b"fault #"),
-    Form(Kind::Call(23), b"grow # at @"),
-    Form(Kind::Call(24), b"shrink # at @"),
-    Form(Kind::Call(25), b"extend # at #"),
-    Form(Kind::Call(26), b"who"),
-    Form(Kind::Call(27), b"draw #"),
+    Form(Kind::Call(CallKind::Fault), b"fault #"),
+    Form(Kind::Call(CallKind::Grow), b"grow # at @"),
+    Form(Kind::Call(CallKind::Shrink), b"shrink # at @"),
+    Form(Kind::Call(CallKind::Extend), b"extend # at #"),
+    Form(Kind::Call(CallKind::Who), b"who"),
+    Form(Kind::Call(CallKind::Draw), b"draw #"),
     Form(Kind::Limits, b"limits # #"),
     Form(Kind::Write { open: true }, b"write open #"),
     Form(Kind::Write { open: false }, b"write closed #"),

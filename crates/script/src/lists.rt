@@ -9,6 +9,7 @@ ghost use Rattle.script.specs.Said.{Listed, Interrupts, Filled};
 use crate::calling::CallBytes;
 use crate::numerals::number;
 use crate::words::Words;
+use calls::Kind;
 
 // The words of a page.
 pub type Page = [u32; 1024];
@@ -40,7 +41,7 @@ pub fn put_interrupt(words: Words<'_>, bytes: &mut CallBytes) -> Option<usize>
     ensures { Interrupts (registers (words_left words.entry)) result bytes.new }
 {
     let count = put_numbers(words, bytes)?;
-    bytes[0] = 21;
+    bytes[0] = Kind::Interrupt as u8;
     bytes[1] = count as u8;
     Some(2 + 8 * count)
 }

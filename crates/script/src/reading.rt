@@ -2,6 +2,7 @@
 ghost use Rattle.std.specs.Prelude.{◌≡◌, ℕ, ◌≤◌, List, [], length, map};
 ghost use Rattle.std.specs.Option.{option_map};
 ghost use Rattle.std.specs.List.{AllByRecursion};
+ghost use Rattle.calls.specs.Kinds.{kind_number};
 ghost use Rattle.script.specs.Words.{words as words_of, words_left};
 ghost use Rattle.script.specs.Forms.{form_of};
 ghost use Rattle.script.specs.Lines as line;
@@ -15,6 +16,7 @@ use crate::forms::{FORMS, Form, Kind};
 use crate::line::Line;
 use crate::lists::{Page, put_interrupt, put_words};
 use crate::words::Words;
+use calls::Kind as CallKind;
 use fields::Numbers;
 
 // Something, if no words are left.
@@ -27,12 +29,12 @@ fn ended(mut rest: Words<'_>) -> Option<()>
     }
 }
 
-fn call(number: u8, taken: Taken, rest: Words<'_>, bytes: &mut CallBytes) -> Option<Line>
-    requires { Callable number (taken_body taken []) }
-    ensures { (ws : List ℕ) → Tried (meant (Kind.Call number) taken (words_left rest.entry)) result bytes.new ws }
+fn call(kind: CallKind, taken: Taken, rest: Words<'_>, bytes: &mut CallBytes) -> Option<Line>
+    requires { Callable (kind_number kind) (taken_body taken []) }
+    ensures { (ws : List ℕ) → Tried (meant (Kind.Call kind) taken (words_left rest.entry)) result bytes.new ws }
 {
     ended(rest)?;
-    let length = put_call(number, taken.fields(Numbers::None), bytes);
+    let length = put_call(kind, taken.fields(Numbers::None), bytes);
     Some(Line::Call { length })
 }
 
@@ -41,7 +43,11 @@ fn hold_from(taken: Taken, rest: Words<'_>, bytes: &mut CallBytes) -> Option<Lin
     ensures { (ws : List ℕ) → Tried (meant Kind.HoldFrom taken (words_left rest.entry)) result bytes.new ws }
 {
     ended(rest)?;
-    let length = put_call(4, taken.fields(Numbers::One(taken.numbers[2])), bytes);
+    let length = put_call(
+        CallKind::Hold,
+        taken.fields(Numbers::One(taken.numbers[2])),
+        bytes,
+    );
     Some(Line::Call { length })
 }
 
@@ -92,7 +98,7 @@ fn read_as(form: &Form, text: &[u8], bytes: &mut CallBytes, page: &mut Page) -> 
     let mut rest = Words(text);
     let taken = fit(form.1, &mut rest)?;
     match form.0 {
-        Kind::Call(number) => call(number, taken, rest, bytes),
+        Kind::Call(kind) => call(kind, taken, rest, bytes),
         Kind::HoldFrom => hold_from(taken, rest, bytes),
         Kind::Interrupt => interrupt(rest, bytes),
         Kind::Limits => limits(taken, rest),
