@@ -18,6 +18,13 @@ impl Refusal {
     {
         Refusal { number, place: 0 }
     }
+
+    // Of bytes that are no call, at the place where they cease to be one.
+    pub fn garbled(place: u64) -> Refusal
+        ensures { result ≡ record { number = 1; place = place } }
+    {
+        Refusal { number: 1, place }
+    }
 }
 
 // What the machine is told of a call. `Enters` has the page of the top table of the cell that is entered, and its registers; `Told` an

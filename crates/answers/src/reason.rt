@@ -1,8 +1,9 @@
 // Why calls are refused.
 ghost use Rattle.std.specs.Prelude.{◌≡◌, Some};
+ghost use Rattle.answers.specs.declared.answer.Answer.TheVariants.{Refused};
 ghost use Rattle.answers.specs.Reasons.{number_of, words_of};
 
-use crate::answer::Refusal;
+use crate::answer::{Answer, Refusal};
 use std::error::Error;
 use std::fmt;
 
@@ -66,6 +67,16 @@ impl From<Reason> for Refusal {
 
     fn from(reason: Reason) -> Refusal {
         Refusal::by(reason.number())
+    }
+}
+
+impl From<Reason> for Answer<'static> {
+    ghost from_gives = { λ reason r. r ≡ Refused (record { number = number_of reason; place = 0 }) };
+
+    fn from(reason: Reason) -> Answer<'static> {
+        Answer::Refused {
+            refusal: Refusal::from(reason),
+        }
     }
 }
 

@@ -1,20 +1,11 @@
 // What rooms come to, as answers.
 ghost use Rattle.std.specs.Prelude.{◌≡◌, []};
 ghost use Rattle.answers.specs.Meaning.{answer_of};
-ghost use Rattle.full_monitor.specs.Outcomes.{refused_by, done_by, entered_by, told_by};
+ghost use Rattle.full_monitor.specs.Outcomes.{done_by, entered_by, told_by};
 
 use answers::{Answer, Reason};
 use fields::Numbers;
 use running::Entry;
-
-// Refused for a reason.
-pub fn refused(reason: Reason) -> Answer<'static>
-    ensures { answer_of result ≡ refused_by reason }
-{
-    Answer::Refused {
-        refusal: reason.into(),
-    }
-}
 
 // Done, or refused.
 pub fn done(res: Result<(), Reason>) -> Answer<'static>
@@ -22,7 +13,7 @@ pub fn done(res: Result<(), Reason>) -> Answer<'static>
 {
     match res {
         Ok(()) => Answer::Done,
-        Err(reason) => refused(reason),
+        Err(reason) => reason.into(),
     }
 }
 
@@ -35,7 +26,7 @@ pub fn entered(res: Result<Entry, Reason>) -> Answer<'static>
             top,
             registers: Numbers::Registers(registers),
         },
-        Err(reason) => refused(reason),
+        Err(reason) => reason.into(),
     }
 }
 

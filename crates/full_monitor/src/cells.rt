@@ -6,7 +6,7 @@ ghost use Rattle.lookups.specs.Lookups.{IsThere, caller as caller_in};
 ghost use Rattle.full_monitor.specs.Limits.{Lent};
 ghost use Rattle.full_monitor.specs.Program.{fits, Does};
 
-use crate::answering::{refused, told};
+use crate::answering::told;
 use answers::{Answer, Ending, Reason};
 use calls::Call;
 use fields::Numbers;
@@ -53,6 +53,6 @@ pub fn by_cell(
             error: 0,
             numbers: Numbers::One(number),
         },
-        _ => refused(Reason::NotNow),
+        _ => Reason::NotNow.into(),
     }
 }

@@ -15,7 +15,6 @@ mod promises;
 mod range;
 mod system;
 
-use answering::refused;
 use answers::{Answer, Reason, Refusal};
 use calls::Call;
 use cells::by_cell;
@@ -33,13 +32,13 @@ fn taken(memory: &mut [u64], closed: &mut [u32], open: &[u32], call: Call<'_>) -
     ensures { Does memory.old closed.old «open».now (call_of call.entry) (answer_of result) memory.new closed.new }
 {
     if !range::fits(call) {
-        return refused(Reason::OutOfRange);
+        return Reason::OutOfRange.into();
     }
     let Some(_) = pages::running(memory) else {
         return by_system(memory, closed, open, call);
     };
     let Some(caller) = lookups::who_calls(memory) else {
-        return refused(Reason::NotNow);
+        return Reason::NotNow.into();
     };
     by_cell(memory, closed, open, caller, call)
 }
@@ -53,10 +52,7 @@ fn answer(memory: &mut [u64], closed: &mut [u32], open: &[u32], bytes: &[u8]) ->
     match calls::read(bytes) {
         Ok(call) => taken(memory, closed, open, call),
         Err(place) => Answer::Refused {
-            refusal: Refusal {
-                number: 1,
-                place: place as u64,
-            },
+            refusal: Refusal::garbled(place as u64),
         },
     }
 }

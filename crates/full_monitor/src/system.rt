@@ -6,7 +6,7 @@ ghost use Rattle.pages.specs.Rows.{running_in};
 ghost use Rattle.full_monitor.specs.Limits.{Lent};
 ghost use Rattle.full_monitor.specs.Program.{fits, Does};
 
-use crate::answering::{done, entered, refused};
+use crate::answering::{done, entered};
 use answers::{Answer, Reason};
 use calls::Call;
 use lookups::InRange;
@@ -54,6 +54,6 @@ pub fn by_system(
             memory, thread, x as u32, y as u32, z as u32,
         )),
         Call::Resume { thread } => entered(running::resume(memory, thread)),
-        _ => refused(Reason::NotNow),
+        _ => Reason::NotNow.into(),
     }
 }

@@ -5,13 +5,13 @@ ghost use Rattle.std.specs.Prelude.{◌≡◌, ◌*◌, ◌≤◌, true, length}
 ghost use Rattle.answers.specs.Meaning.{answer_of, refusal_of};
 ghost use Rattle.calls.specs.Meaning.{call_of};
 ghost use Rattle.calls.specs.Table.{read_call};
-ghost use Rattle.monitor.specs.Stage.{answer as stage_answer, good_limits, fitting, refusing};
+ghost use Rattle.monitor.specs.Stage.{answer as stage_answer, good_limits, fitting};
 ghost use Rattle.monitor.specs.Promises.{StageStands};
 ghost use Rattle.monitor.specs.Called.{Opened, Staged};
 
 mod values;
 
-use answers::{Answer, Refusal};
+use answers::{Answer, Reason, Refusal};
 use calls::Call;
 use fields::Unwritten;
 pub use values::{Limits, Reply};
@@ -42,19 +42,10 @@ pub fn open(limits: Limits, memory: &mut [u64], closed: &[u32], open: &[u32]) ->
     ensures { Opened limits.closed limits.«open» (length closed.now) (length «open».now) memory.old memory.new result }
 {
     if !fits(limits, memory.len(), closed.len(), open.len()) {
-        return Err(Refusal::by(2));
+        return Err(Reason::OutOfRange.into());
     }
     pages::lay_out(memory, limits.closed, limits.open);
     Ok(())
-}
-
-// A refusal by its number in the list, at no place.
-fn refused(number: u64) -> Answer<'static>
-    ensures { answer_of result ≡ refusing number 0 }
-{
-    Answer::Refused {
-        refusal: Refusal::by(number),
-    }
 }
 
 // A call that is one, taken if this stage has it.
@@ -63,7 +54,7 @@ fn taken(pages: u64, call: Call<'_>) -> Answer<'static>
 {
     match call {
         Call::HowMany => Answer::Number { number: pages },
-        _ => refused(2),
+        _ => Reason::OutOfRange.into(),
     }
 }
 
@@ -73,10 +64,7 @@ fn answer(pages: u64, bytes: &[u8]) -> Answer<'static>
     match calls::read(bytes) {
         Ok(call) => taken(pages, call),
         Err(place) => Answer::Refused {
-            refusal: Refusal {
-                number: 1,
-                place: place as u64,
-            },
+            refusal: Refusal::garbled(place as u64),
         },
     }
 }

@@ -38,10 +38,7 @@ impl<W: Write + Drop> Printer<W> {
     // The refusal of a line that can't be read.
     pub fn unreadable(&mut self, line: u64) -> io::Result<()> {
         self.answer(Answer::Refused {
-            refusal: Refusal {
-                number: 1,
-                place: line,
-            },
+            refusal: Refusal::garbled(line),
         })
     }
 

@@ -6,7 +6,7 @@ use answers::Refusal;
 use std::alloc::AllocError;
 
 // Limits out of range, or no memory for so many pages.
-#[derive(Clone, Copy)]
+#[derive(Clone, Copy, Debug, PartialEq, Eq)]
 pub enum Unopened {
     Refused { refusal: Refusal },
     NoMemory,

@@ -1,5 +1,5 @@
-use Rattle.std.proofs.Common.{Ok, Err, sym, refl, subst}
-use Rattle.answers.specs.Meaning.{answer_of}
+use Rattle.std.proofs.Common.{Ok, Err, sym, refl, ap, subst}
+use Rattle.answers.specs.Meaning.{answer_of, refusal_of}
 use Rattle.model.specs.Answers.{refused}
 use Rattle.calls.proofs.Stand.{asked_is}
 use Rattle.full_monitor.specs.Program.{says, leaves, leaves_pages, Does}
@@ -15,6 +15,6 @@ pub returns-in-Err : goal.returns-in-Err
 unfolding says leaves leaves_pages
 returns-in-Err c =
     subst (λ q. Does c.args.memory.now c.args.closed.now c.args.open.now q
-    (refused (record { number = 1; place = c.in-Err.place })) c.args.memory.now c.args.closed.now)
+    (refused (refusal_of c.garbled.result)) c.args.memory.now c.args.closed.now)
     (sym (asked_is c.args.bytes.now (Err c.in-Err.place) c.in-Err.ensures))
-    (record { answer = refl; memory = refl; pages = refl })
+    (record { answer = ap (λ r. refused (refusal_of r)) c.garbled.ensures; memory = refl; pages = refl })

@@ -14,7 +14,7 @@ use super::Session;
 use crate::errors::{NotWritten, Unopened};
 use crate::flat;
 use crate::under::Monitor;
-use answers::Refusal;
+use answers::{Reason, Refusal};
 use fields::Unwritten;
 use monitor::{Limits, Reply};
 use std::alloc::Global;
@@ -31,9 +31,7 @@ pub fn open<M: Monitor>(heap: Global, limits: Limits) -> Result<Session<M>, Unop
         (λ e. Unopens limits.closed limits.«open» e) }
 {
     if !monitor::in_range(limits) {
-        return Err(Unopened::Refused {
-            refusal: Refusal::by(2),
-        });
+        return Err(Unopened::from(Refusal::from(Reason::OutOfRange)));
     }
     let pages = limits.closed as usize;
     let mut memory = Vec::from_elem(heap, 0u64, 256 + 2048 * pages)?;

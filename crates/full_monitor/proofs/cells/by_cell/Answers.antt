@@ -68,4 +68,4 @@ returns-in_default c =
     r.not-Who r.not-Draw in
     let waits = system_waits c.args.memory.now c.args.closed.now c.args.open.now (call_of c.args.call) c.requires.fits
     system.0 system.1 (calls_run c.args.memory.now c.args.caller c.requires.calls) in
-    record { answer = c.refused.ensures ∙ waits.answer; memory = waits.memory; pages = waits.pages }
+    record { answer = ap answer_of c.into-in_default.ensures ∙ waits.answer; memory = waits.memory; pages = waits.pages }

@@ -1,5 +1,6 @@
 use Rattle.std.proofs.Common.{refl, ap, ◌∙◌}
 use Rattle.fields.specs.Shapes.{place_of}
+use Rattle.answers.specs.Meaning.{answer_of}
 use Rattle.calls.specs.Meaning.{call_of}
 use Rattle.model.specs.Answers.{number}
 use Rattle.model.specs.Calls.{how_many, new_cell, new_thread, new_table, hold, give, show, remove, seal, stop, enter, resume}
@@ -93,4 +94,4 @@ returns-in_default c =
     r.not-Show r.not-Remove r.not-Seal r.not-Stop r.not-Enter r.not-Resume in
     let waits = cell_waits c.args.memory.now c.args.closed.now c.args.open.now (call_of c.args.call) c.requires.fits
     cell.0 cell.1 (ap (caller_of c.args.memory.now) c.requires.idle) in
-    record { answer = c.refused.ensures ∙ waits.answer; memory = waits.memory; pages = waits.pages }
+    record { answer = ap answer_of c.into.ensures ∙ waits.answer; memory = waits.memory; pages = waits.pages }
