@@ -11,8 +11,8 @@ ghost use Rattle.building.specs.Made.{table_for, made_held, source_words, held_m
 use crate::free::free_page;
 use answers::Reason;
 use fields::Place;
-use pages::{Phase, Record, Slot};
 use lookups::InRange;
+use pages::{Phase, Record, Slot};
 use sha256::Measure;
 
 // Whether an open page is there, or none is asked for.

@@ -10,8 +10,8 @@ ghost use Rattle.building.specs.Made.{made_table, table_for, shown};
 
 use crate::free::free_page;
 use answers::Reason;
-use pages::{Phase, Record, Slot};
 use lookups::InRange;
+use pages::{Phase, Record, Slot};
 
 // Whether a page may be a table of a cell, at a place of its top table; hands on the top table's page.
 fn may_add(memory: &[u64], page: u64, cell: u64, index: u64) -> Result<u64, Reason>

@@ -6,7 +6,6 @@ use Rattle.model.specs.Pages.{nothing}
 use Rattle.pages.specs.Flat.{page_put}
 use Rattle.pages.specs.Rows.{slot_put}
 use Rattle.full_pages.specs.Meaning.{begun}
-
 use Rattle.pages.specs.declared.values.Record.TheVariants.{Spare}
 use Rattle.lookups.specs.Lookups.{vacant, showing}
 use Rattle.lookups.specs.declared.Caller.{Caller}

@@ -12,8 +12,8 @@ ghost use Rattle.growing.specs.Made.{grown, grown_pages, shrunk, extended};
 
 use answers::Reason;
 use fields::Place;
-use pages::{Record, Slot};
 use lookups::{Caller, InRange};
+use pages::{Record, Slot};
 
 // Whether a page is the caller's, and spare. This and the next are two functions, for a pattern cannot be handed on.
 fn owns_spare(memory: &[u64], caller: Caller, page: u64) -> bool

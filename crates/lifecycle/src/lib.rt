@@ -4,7 +4,6 @@
 ghost use Rattle.std.specs.Prelude.{◌≡◌, ◌<◌, ◌&&◌, ◌||◌, is_some, slice_index};
 ghost use Rattle.model.specs.Pages.{sealed, stopped};
 ghost use Rattle.full_pages.specs.Meaning.{Sized, cleared};
-
 ghost use Rattle.lookups.specs.Lookups.{spare_in, cell_of, is_sealed, is_stopped};
 ghost use Rattle.lookups.specs.Outcomes.{Checked, Taken};
 ghost use Rattle.lifecycle.specs.Checks.{remove_checks, seal_checks, stop_checks};

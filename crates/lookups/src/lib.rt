@@ -12,8 +12,8 @@ ghost use Rattle.pages.specs.Meaning.{slot_of};
 ghost use Rattle.lookups.specs.Lookups.{there, record_of, part_of, cell_of, thread_of, table_of, vacant, showing};
 ghost use Rattle.lookups.specs.Lookups.{caller as caller_in, IsThere, has_parts};
 
-use pages::{Phase, Record, Slot};
 pub use in_range::InRange;
+use pages::{Phase, Record, Slot};
 
 // What the first page of a cell has.
 #[derive(Clone, Copy)]

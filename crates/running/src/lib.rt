@@ -13,8 +13,8 @@ mod registers;
 
 use answers::Reason;
 use fields::Registers;
-use pages::Phase;
 use lookups::{Caller, Cell, Thread};
+use pages::Phase;
 pub use registers::registers_from;
 
 // What is entered: the page of the cell's top table, and the registers.

@@ -8,6 +8,7 @@ use Rattle.std.proofs.lemmas.Bool.{cases_Bool}
 use Rattle.model.specs.Calls as model
 use Rattle.fields.specs.Bytes.{Wide}
 use Rattle.fields.specs.declared.values.Place.{Place}
+use Rattle.calls.specs.Kinds.{kind_number}
 use Rattle.calls.specs.Table.{carried, Carried, read_call}
 use Rattle.calls.proofs.Stand.{calls_back}
 use Rattle.script.specs.Words.{words}
@@ -117,7 +118,7 @@ at_small (n ∷ ns) (suc i) h = at_small ns i h.1
 
 -- a form of a call is of one that bytes carry
 abbrev Carries : Kind → Type 0
-Carries (Call n) = (t : Taken) → Small t → Carried (call_with n (taken_body t []))
+Carries (Call n) = (t : Taken) → Small t → Carried (call_with (kind_number n) (taken_body t []))
 Carries HoldFrom = Unit {0}
 Carries Interrupt = Unit {0}
 Carries Limits = Unit {0}
