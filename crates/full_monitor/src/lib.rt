@@ -19,12 +19,9 @@ use answers::{Answer, Reason, Refusal};
 use calls::Call;
 use cells::by_cell;
 use fields::Unwritten;
-pub use monitor::{Limits, Reply, in_range, open};
+pub use monitor::{LONGEST, Limits, Reply, in_range, open};
 pub use promises::{cells_are_kept, program_is_right, tells_no_secrets};
 use system::by_system;
-
-// The longest answer that the system is told.
-const LONGEST: usize = 17;
 
 // A call: out of range it is refused by 2; then it is the system's while no cell runs, or that of the cell that does.
 fn taken(memory: &mut [u64], closed: &mut [u32], open: &[u32], call: Call<'_>) -> Answer<'static>

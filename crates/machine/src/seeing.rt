@@ -80,7 +80,7 @@ impl Lent<'_> {
         }
     }
 
-    // Stores a word where the tables let it; says whether they do.
+    // Stores a word where the tables let it; says whether they do, which is all that there is to say, so it is no Result.
     #[tactic(auto, unfolding(model::specs::Pages::writable))]
     pub fn store(&mut self, address: u32, value: u32) -> bool
         requires { Whole self.old }

@@ -16,8 +16,8 @@ use calls::Call;
 use fields::Unwritten;
 pub use values::{Limits, Reply};
 
-// The longest answer that the system is told.
-const LONGEST: usize = 17;
+// How many bytes hold whatever the system is told.
+pub const LONGEST: usize = 17;
 
 // Whether there are from 2 to 4,096 closed pages, and at most 1,048,576 open ones.
 pub fn in_range(limits: Limits) -> bool

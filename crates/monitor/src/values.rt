@@ -8,7 +8,8 @@ pub struct Limits {
     pub open: u64,
 }
 
-// The answer for the machine, and how many bytes the system is told.
+// The answer for the machine, and how many bytes the system is told: they stand at the front of a slice that was lent for them, since the
+// monitor allocates nothing.
 #[derive(Clone, Copy)]
 pub struct Reply {
     pub answer: Answer<'static>,

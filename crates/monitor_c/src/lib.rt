@@ -5,7 +5,7 @@ ghost use Rattle.std.specs.Prelude.{length, ◌≡◌};
 ghost use Rattle.calls.specs.Table.{read_call};
 ghost use Rattle.monitor_c.specs.Replied.{fits, OpenedAs, Replied};
 
-use full_monitor::Limits;
+use full_monitor::{LONGEST, Limits};
 
 // How many numbers the memory's header has, and its record of a closed page.
 const HEADER: usize = 256;
@@ -19,9 +19,6 @@ const WORDS: u64 = 1024;
 const MOST_CLOSED: u64 = 4096;
 
 const MOST_OPEN: u64 = 1048576;
-
-// How many bytes hold whatever the system is told.
-const LONGEST: usize = 17;
 
 // Whether the memory has its header, and the slices are as long as that says, with room for what the system is told.
 fn fits(memory: &[u64], closed: &[u32], open: &[u32], told: &[u8]) -> bool

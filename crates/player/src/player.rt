@@ -3,7 +3,7 @@ use crate::errors::Error;
 use crate::lines::Lines;
 use crate::options::Prints;
 use crate::printer::Printer;
-use monitor::Limits;
+use monitor::{LONGEST, Limits};
 use script::Line;
 use session::{Monitor, Session, Unopened};
 use std::alloc::Global;
@@ -28,7 +28,7 @@ fn answers(what: Line) -> bool {
 impl<M: Monitor, W: Write + Drop> Player<M, W> {
     // One call, by its bytes. Seventeen bytes are enough for what the system is told of any, and they are an answer.
     fn call(&mut self, bytes: &[u8]) -> io::Result<()> {
-        let mut told = [0u8; 17];
+        let mut told = [0u8; LONGEST];
         let Ok(reply) = self.session.call(bytes, &mut told) else {
             return Ok(());
         };

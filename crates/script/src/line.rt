@@ -1,6 +1,7 @@
 // What a line is.
 
-// The bytes of a call, and the words of a page that is written, stand at the front of the slices that were lent for them.
+// The bytes of a call, and the words of a page that is written, stand at the front of the slices that were lent for them, so many: to read a
+// line allocates nothing.
 #[derive(Clone, Copy)]
 pub enum Line {
     Skip,
