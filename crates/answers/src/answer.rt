@@ -30,7 +30,7 @@ impl Refusal {
 // What the machine is told of a call. `Enters` has the page of the top table of the cell that is entered, and its registers; `Told` an
 // error, or 0, for the cell that goes on, and numbers; `Left` how the cell came back: 0 it left, with a number, 1 it was interrupted,
 // 2 it had a fault, of a kind. What is read of bytes may have any `error` and any `how`, so they are no `Reason` and no `Ending`.
-#[derive(Clone, Copy)]
+#[derive(Clone, Copy, Debug)]
 pub enum Answer<'a> {
     Refused { refusal: Refusal },
     Done,

@@ -2,7 +2,7 @@
 use fields::{Numbers, Place};
 
 // By the system, up to `Resume`, and then by the cell that runs. Pages and cells are named by numbers, a cell by its first page.
-#[derive(Clone, Copy)]
+#[derive(Clone, Copy, Debug)]
 pub enum Call<'a> {
     HowMany,
     NewCell {

@@ -29,8 +29,9 @@ pub struct Registers {
     pub words: [u32; 17],
 }
 
-// The numbers of a list: by value where the monitor makes them, or lent as they stand in bytes, eight for each.
-#[derive(Clone, Copy)]
+// The numbers of a list: by value where the monitor makes them, or lent as they stand in bytes, eight for each. A derived `==` would tell
+// two forms of one list apart, so there is none here, nor on what holds a list.
+#[derive(Clone, Copy, Debug)]
 pub enum Numbers<'a> {
     None,
     One(u64),
@@ -40,7 +41,7 @@ pub enum Numbers<'a> {
 }
 
 // What a call or an answer has behind its number. What its shape lacks is 0.
-#[derive(Clone, Copy)]
+#[derive(Clone, Copy, Debug)]
 pub struct Fields<'a> {
     pub numbers: [u64; 4],
     pub place: Place,
@@ -48,7 +49,7 @@ pub struct Fields<'a> {
 }
 
 // A message, as its kind and its fields.
-#[derive(Clone, Copy)]
+#[derive(Clone, Copy, Debug)]
 pub struct Parts<'a, K> {
     pub kind: K,
     pub fields: Fields<'a>,
@@ -95,7 +96,7 @@ impl<'a, K> Parts<'a, K> {
 pub struct UnknownKind(pub u8);
 
 // Which fields there are: how many numbers, whether a place, and a list of at most how many.
-#[derive(Clone, Copy)]
+#[derive(Clone, Copy, Debug, PartialEq, Eq)]
 pub struct Shape {
     pub numbers: usize,
     pub place: bool,
@@ -158,3 +159,35 @@ impl fmt::Display for Unwritten {
 }
 
 impl Error for Unwritten {}
+
+#[cfg(test)]
+mod tests {
+    use super::*;
+    use std::test::Fail;
+
+    #[test]
+    fn why_nothing_was_written_in_words(rt: HostRuntime) -> Result<(), Fail> {
+        let alloc = rt.alloc();
+        assert_eq!(rt;
+            Unwritten::TooMany.to_string(alloc)?.as_str(),
+            "the list has too many numbers"
+        );
+        assert_eq!(rt;
+            Unwritten::TooShort { needed: 26 }
+                .to_string(alloc)?
+                .as_str(),
+            "26 bytes are needed"
+        );
+        Ok(())
+    }
+
+    #[test]
+    fn an_unknown_kind_in_words(rt: HostRuntime) -> Result<(), Fail> {
+        let alloc = rt.alloc();
+        assert_eq!(rt;
+            UnknownKind(12).to_string(alloc)?.as_str(),
+            "no kind has the number 12"
+        );
+        Ok(())
+    }
+}
