@@ -8,7 +8,8 @@ use Rattle.fields.specs.Bytes.{number_bytes, numbers_bytes, numbers_in}
 use Rattle.model.specs.Calls as model
 use Rattle.fields.specs.Shapes.{Body, place, list, place_if, list_if, body, layout}
 use Rattle.fields.specs.declared.values.Shape.{Shape}
-use Rattle.fields.specs.Steps.{Wrote}
+use Rattle.fields.specs.Steps.{Wrote, Put, Room}
+use Rattle.fields.specs.declared.writing.Writer.{Writer}
 use Rattle.fields.proofs.Pieces.{length_numbers_bytes, length_numbers_in, numbers_front}
 
 pub wrote_byte : (a : List ℕ) (at x : ℕ) → at < length a → Wrote a (set a at x) at (x ∷ []) (at + 1)
@@ -52,30 +53,36 @@ numbers_bytes_append [] ys = refl
 numbers_bytes_append (x ∷ xs) ys =
     ap (λ t. number_bytes x ++ t) (numbers_bytes_append xs ys) ∙ sym (append_assoc (number_bytes x) (numbers_bytes xs) (numbers_bytes ys))
 
+pub put_none : (w : Writer) → Put w w []
+put_none w = record { same = refl; wrote = wrote_none w.out.now w.at }
+
+-- and then more behind it
+pub put_more : (a b c : Writer) (x y : List ℕ) → Put a b x → Put b c y → Room a (length x + length y) → Put a c (x ++ y)
+put_more a b c x y v w room =
+    record { same = w.same ∙ v.same; wrote = wrote_more a.out.now b.out.now c.out.now x y a.at b.at c.at v.wrote w.wrote room }
+
 -- one number more, of those that are written in turn
-pub wrote_next : (a b c ns : List ℕ) (at m e i : ℕ) → i < length ns → at + 8 * length ns ≤ length a →
-    Wrote a b at (numbers_bytes (take i ns)) m → Wrote b c m (number_bytes (get_or ns i 0)) e → Wrote a c at (numbers_bytes (take
-    (i + 1) ns)) e
+pub put_next : (a b c : Writer) (ns : List ℕ) (i : ℕ) → i < length ns → Room a (8 * length ns) → Put a b (numbers_bytes (take i ns)) →
+    Put b c (number_bytes (get_or ns i 0)) → Put a c (numbers_bytes (take (i + 1) ns))
 unfolding numbers_bytes
-wrote_next a b c ns at m e i h room v w =
+put_next a b c ns i h room v w =
     let l : length (numbers_bytes (take i ns)) ≡ 8 * i = length_numbers_bytes _ ∙ ap (λ n. 8 * n) (simp length-take (omega arith)) in
     let t : numbers_bytes (take (i + 1) ns) ≡ numbers_bytes (take i ns) ++ number_bytes (get_or ns i 0) =
     ap numbers_bytes (take_more ns i 0 h) ∙ numbers_bytes_append (take i ns) (get_or ns i 0 ∷ []) in
-    wrote_is a c _ _ at e t (wrote_more a b c _ _ at m e v w (omega arith))
+    rw t (put_more a b c _ _ v w (omega arith))
 
-pub room_next : (a b ns : List ℕ) (at m i : ℕ) → i < length ns → at + 8 * length ns ≤ length a → Wrote a b at (numbers_bytes
-    (take i ns)) m →
-    m + 8 ≤ length b
-room_next a b ns at m i h room v =
+pub room_next : (a b : Writer) (ns : List ℕ) (i : ℕ) → i < length ns → Room a (8 * length ns) → Put a b (numbers_bytes (take i ns)) →
+    Room b 8
+room_next a b ns i h room v =
     let l : length (numbers_bytes (take i ns)) ≡ 8 * i = length_numbers_bytes _ ∙ ap (λ n. 8 * n) (simp length-take (omega arith)) in
-    omega (arith, v.ends, v.long)
+    omega (arith, v.wrote.ends, v.wrote.long)
 
 -- a list's count, and its numbers
-pub wrote_list : (a b c ns : List ℕ) (n at m e : ℕ) → n ≡ length ns → at + (1 + 8 * length ns) ≤ length a → Wrote a b at (n ∷ []) m →
-    Wrote b c m (numbers_bytes ns) e → Wrote a c at (length ns ∷ numbers_bytes ns) e
-wrote_list a b c ns n at m e is room v w =
+pub put_list : (a b c : Writer) (ns : List ℕ) (n : ℕ) → n ≡ length ns → Room a (1 + 8 * length ns) → Put a b (n ∷ []) →
+    Put b c (numbers_bytes ns) → Put a c (length ns ∷ numbers_bytes ns)
+put_list a b c ns n is room v w =
     let l : length (numbers_bytes ns) ≡ 8 * length ns = length_numbers_bytes ns in
-    wrote_is a c _ _ at e (ap (λ k. k ∷ numbers_bytes ns) (sym is)) (wrote_more a b c (n ∷ []) (numbers_bytes ns) at m e v w (omega arith))
+    rw (sym is) (put_more a b c (n ∷ []) (numbers_bytes ns) v w (omega arith))
 
 -- the whole numbers in bytes are written as they stand there
 pub lent_bytes : (bs : List ℕ) → ((i : ℕ) → get_or bs i 0 < 256) → numbers_bytes (numbers_in (length bs / 8) bs) ≡ take (8 *
@@ -99,13 +106,13 @@ pub length_list : (most : ℕ) (ns : List ℕ) → length ((list most).write ns)
 length_list most ns = let l = length_numbers_bytes ns in omega arith
 
 -- the first of some numbers, as a part of a slice has them
-pub wrote_first : (a b ns : List ℕ) (n at e : ℕ) → n ≤ length ns → Wrote a b at (numbers_bytes (take (n - 0) ns)) e →
-    Wrote a b at (numbers_bytes (take n ns)) e × (e ≡ at + 8 * n)
-wrote_first a b ns n at e h w =
+pub put_first : (a b : Writer) (ns : List ℕ) (n : ℕ) → n ≤ length ns → Put a b (numbers_bytes (take (n - 0) ns)) →
+    Put a b (numbers_bytes (take n ns)) × (b.at ≡ a.at + 8 * n)
+put_first a b ns n h w =
     let z : n ≡ n - 0 = omega arith in
-    let v : Wrote a b at (numbers_bytes (take n ns)) e = wrote_is a b _ _ at e (ap (λ k. numbers_bytes (take k ns)) z) w in
+    let v : Put a b (numbers_bytes (take n ns)) = rw z w in
     let l : length (numbers_bytes (take n ns)) ≡ 8 * n = length_numbers_bytes _ ∙ ap (λ k. 8 * k) (simp length-take (omega arith)) in
-    (v, omega (arith, v.ends))
+    (v, omega (arith, v.wrote.ends))
 
 -- a whole message
 pub length_message : (s : Shape) (n : ℕ) (f : Body) → length f.numbers ≡ 4 →
@@ -117,25 +124,23 @@ length_message s n f h =
     length_numbers_bytes _ ∙ ap (λ k. 8 * k) (simp length-take (omega arith)) in
     simp length-append (omega arith)
 
-pub wrote_message : (s : Shape) (n : ℕ) (f : Body) (a b c d e : List ℕ) (x y z end : ℕ)
-    → length (n ∷ (body (layout s)).write f) ≤ length a →
-    Wrote a b 0 (n ∷ []) x → Wrote b c x (numbers_bytes (take s.numbers f.numbers)) y → Wrote c d y ((place_if s.place).write
-    f.place) z →
-    Wrote d e z ((list_if s.list).write f.list) end →
-    (end ≡ length (n ∷ (body (layout s)).write f)) × (e ≡ (n ∷ (body (layout s)).write f) ++ drop end a)
-wrote_message s n f a b c d e x y z end room p q r t =
+pub put_message : (s : Shape) (n : ℕ) (f : Body) (a b c d e : Writer) → a.at ≡ 0 → Room a (length (n ∷ (body (layout s)).write f)) →
+    Put a b (n ∷ []) → Put b c (numbers_bytes (take s.numbers f.numbers)) → Put c d ((place_if s.place).write f.place) →
+    Put d e ((list_if s.list).write f.list) →
+    (e.at ≡ length (n ∷ (body (layout s)).write f)) × (e.out.now ≡ (n ∷ (body (layout s)).write f) ++ drop e.at a.out.now)
+    × (a.out.ghost_name ≡ e.out.ghost_name)
+put_message s n f a b c d e start room p q r t =
     let ns : List ℕ = numbers_bytes (take s.numbers f.numbers) in
     let pl : List ℕ = (place_if s.place).write f.place in
     let ls : List ℕ = (list_if s.list).write f.list in
     let long : length (ns ++ (pl ++ ls)) ≡ length ns + (length pl + length ls) = simp length-append in
-    let room2 : 1 + (length ns + (length pl + length ls)) ≤ length a = omega (arith, room) in
-    let u : Wrote c e y (pl ++ ls) end = wrote_more c d e pl ls y z end r t (omega (arith, p.ends, p.long, q.ends, q.long)) in
-    let v : Wrote b e x (ns ++ (pl ++ ls)) end = wrote_more b c e ns (pl ++ ls) x y end q u (simp length-append (omega (
-      arith,
-      p.ends,
-      p.long,
-    ))) in
-    let w : Wrote a e 0 (n ∷ (ns ++ (pl ++ ls))) end = wrote_more a b e (n ∷ []) (ns ++ (pl ++ ls)) 0 x end p v (simp length-append
-    (omega arith)) in
-    let en : end ≡ length (n ∷ (body (layout s)).write f) = w.ends ∙ omega arith in
-    (en, w.there ∙ ap (λ k. (n ∷ (body (layout s)).write f) ++ drop k a) (sym w.ends))
+    let room2 : a.at + (1 + (length ns + (length pl + length ls))) ≤ length a.out.now = omega (arith, room) in
+    let u : Put c e (pl ++ ls) = put_more c d e pl ls r t
+    (omega (arith, p.wrote.ends, p.wrote.long, q.wrote.ends, q.wrote.long)) in
+    let v : Put b e (ns ++ (pl ++ ls)) = put_more b c e ns (pl ++ ls) q u
+    (simp length-append (omega (arith, p.wrote.ends, p.wrote.long))) in
+    let w : Put a e (n ∷ (ns ++ (pl ++ ls))) = put_more a b e (n ∷ []) (ns ++ (pl ++ ls)) p v (simp length-append (omega arith)) in
+    let front : take a.at a.out.now ≡ [] = ap (λ k. take k a.out.now) start in
+    let back : drop (a.at + length (n ∷ (ns ++ (pl ++ ls)))) a.out.now ≡ drop e.at a.out.now =
+    ap (λ k. drop k a.out.now) (sym w.wrote.ends) in
+    (omega (arith, start, w.wrote.ends), w.wrote.there ∙ rw (front, back) refl, sym w.same)

@@ -3,6 +3,7 @@ use Rattle.std.specs.Prelude.{◌≡◌, ℕ, ◌+◌, ◌-◌, ◌<◌, ◌≤�
 use Rattle.fields.specs.Codec.{Codec, got, lost, read_all, Ceases}
 use Rattle.fields.specs.Shapes.{Body, list_if, few, body_of}
 use Rattle.fields.specs.declared.cursor.Cursor.{Cursor}
+use Rattle.fields.specs.declared.writing.Writer.{Writer}
 use Rattle.fields.specs.declared.values.Parts.{Parts}
 use Rattle.fields.specs.declared.values.Unwritten.{Unwritten}
 use Rattle.fields.specs.declared.values.Unwritten.TheVariants.{TooMany, TooShort}
@@ -39,6 +40,15 @@ pub record Wrote (before after : List ℕ) (at : ℕ) (bytes : List ℕ) (end : 
   pub there : after ≡ take at before ++ (bytes ++ drop (at + length bytes) before)
   pub ends : end ≡ at + length bytes
   pub long : length after ≡ length before
+
+-- a writer has room for so many bytes more
+abbrev pub Room : Writer → ℕ → Type 0
+Room w n = w.at + n ≤ length w.out.now
+
+-- Bytes put into a writer's slice, behind those that it has written.
+pub record Put (before after : Writer) (bytes : List ℕ) : Type 0 where
+  pub same : after.out.ghost_name ≡ before.out.ghost_name
+  pub wrote : Wrote before.out.now after.out.now before.at bytes after.at
 
 -- how many bytes a list takes, unless it has too many numbers
 abbrev pub Sized : Option ℕ → List ℕ → Result ℕ Unwritten → Type 0

@@ -1,110 +1,115 @@
-// Fields written into a lent slice. Each `put` writes at `at`, and says where it ends.
+// Fields written into a lent slice, one behind another.
 ghost use Rattle.std.specs.Prelude.{◌≡◌, ◌+◌, ◌*◌, ◌/◌, ◌<◌, ◌≤◌, true, [], ◌∷◌, length};
 ghost use Rattle.fields.specs.Bytes.{number_bytes, numbers_bytes, numbers_in};
 ghost use Rattle.model.specs.Calls as model;
 ghost use Rattle.fields.specs.Shapes.{few, rights, place as place_codec, list as list_codec, place_if, list_if, body, layout, place_of};
 ghost use Rattle.fields.specs.Shapes.{numbers_of, body_of};
-ghost use Rattle.fields.specs.Steps.{Wrote, Sized, Written};
+ghost use Rattle.fields.specs.Steps.{Sized, Written};
 
 use crate::values::{Fields, Numbers, Place, Shape, Unwritten};
 
-fn put_byte(out: &mut [u8], at: usize, byte: u8) -> usize
-    requires { at < length out.old }
-    ensures { Wrote out.old out.new at (byte ∷ []) result }
-{
-    out[at] = byte;
-    at + 1
+// A lent slice, and how far it is written.
+#[derive(Drop)]
+struct Writer<'a> {
+    out: &'a mut [u8],
+    at: usize,
 }
 
-fn put_number(out: &mut [u8], at: usize, number: u64) -> usize
-    requires { at + 8 ≤ length out.old }
-    ensures { Wrote out.old out.new at (number_bytes number) result }
-{
-    out[at..at + 8].copy_from_slice(&number.to_le_bytes());
-    at + 8
-}
+impl Writer<'_> {
+    ghost use Rattle.fields.specs.Steps.{Put, Room};
 
-fn put_numbers(out: &mut [u8], at: usize, numbers: &[u64]) -> usize
-    requires { at + 8 * length numbers.now ≤ length out.old }
-    ensures { Wrote out.old out.new at (numbers_bytes numbers.now) result }
-{
-    let mut end = at;
-    for number in numbers {
-        end = put_number(out, end, *number);
+    fn byte(&mut self, byte: u8)
+        requires { Room self.old 1 }
+        ensures { Put self.old self.new (byte ∷ []) }
+    {
+        self.out[self.at] = byte;
+        self.at += 1;
     }
-    end
-}
 
-// Words as numbers. Made into numbers by `map` first, for `put_numbers`, they got no proof: how long an array in a variant is stands in no goal.
-fn put_words(out: &mut [u8], at: usize, words: &[u32]) -> usize
-    requires { at + 8 * length words.now ≤ length out.old }
-    ensures { Wrote out.old out.new at (numbers_bytes words.now) result }
-{
-    let mut end = at;
-    for word in words {
-        end = put_number(out, end, u64::from(*word));
+    fn number(&mut self, number: u64)
+        requires { Room self.old 8 }
+        ensures { Put self.old self.new (number_bytes number) }
+    {
+        self.out[self.at..self.at + 8].copy_from_slice(&number.to_le_bytes());
+        self.at += 8;
     }
-    end
-}
 
-// The whole numbers that stand in bytes, as they stand there.
-fn put_lent(out: &mut [u8], at: usize, bytes: &[u8]) -> usize
-    requires { at + 8 * (length bytes.now / 8) ≤ length out.old }
-    ensures { Wrote out.old out.new at (numbers_bytes (numbers_in (length bytes.now / 8) bytes.now)) result }
-{
-    let size = 8 * (bytes.len() / 8);
-    out[at..at + size].copy_from_slice(&bytes[0..size]);
-    at + size
+    fn numbers(&mut self, numbers: &[u64])
+        requires { Room self.old (8 * length numbers.now) }
+        ensures { Put self.old self.new (numbers_bytes numbers.now) }
+    {
+        for number in numbers {
+            self.number(*number);
+        }
+    }
+
+    // Words as numbers. Made into numbers by `map` first, for `numbers`, they got no proof: how long an array in a variant is stands in no goal.
+    fn words(&mut self, words: &[u32])
+        requires { Room self.old (8 * length words.now) }
+        ensures { Put self.old self.new (numbers_bytes words.now) }
+    {
+        for word in words {
+            self.number(u64::from(*word));
+        }
+    }
+
+    // The whole numbers that stand in bytes, as they stand there.
+    fn lent(&mut self, bytes: &[u8])
+        requires { Room self.old (8 * (length bytes.now / 8)) }
+        ensures { Put self.old self.new (numbers_bytes (numbers_in (length bytes.now / 8) bytes.now)) }
+    {
+        let size = 8 * (bytes.len() / 8);
+        self.out[self.at..self.at + size].copy_from_slice(&bytes[0..size]);
+        self.at += size;
+    }
+
+    fn place(&mut self, place: Place)
+        requires { Room self.old 17 }
+        ensures { Put self.old self.new (place_codec.write (place_of place)) }
+    {
+        self.numbers(&[place.table, place.slot]);
+        self.byte(rights_of(place));
+    }
+
+    // A count, and so many numbers.
+    fn list(&mut self, list: Numbers<'_>)
+        requires { Room self.old (1 + 8 * length (numbers_of list)) × (length (numbers_of list) < 256) }
+        ensures { Put self.old self.new (length (numbers_of list.entry) ∷ numbers_bytes (numbers_of list.entry)) }
+    {
+        self.byte(list.len() as u8);
+        match list {
+            Numbers::None => {}
+            Numbers::One(number) => self.number(number),
+            Numbers::Name(words) => self.words(&words),
+            Numbers::Registers(registers) => self.words(&registers.words),
+            Numbers::Lent(bytes) => self.lent(bytes),
+        }
+    }
+
+    fn place_if(&mut self, there: bool, place: Place)
+        requires { Room self.old (length ((place_if there).write (place_of place))) }
+        ensures { Put self.old self.new ((place_if there).write (place_of place)) }
+    {
+        if there {
+            self.place(place);
+        }
+    }
+
+    fn list_if(&mut self, most: Option<u8>, list: Numbers<'_>)
+        requires { Room self.old (length ((list_if most).write (numbers_of list))) × (few most (length (numbers_of list)) ≡ true) }
+        ensures { Put self.old self.new ((list_if most).write (numbers_of list.entry)) }
+    {
+        match most {
+            Some(_most) => self.list(list),
+            None => {}
+        }
+    }
 }
 
 fn rights_of(place: Place) -> u8
     ensures { result ≡ rights place.write place.run }
 {
     u8::from(place.write) + 2 * u8::from(place.run)
-}
-
-fn put_place(out: &mut [u8], at: usize, place: Place) -> usize
-    requires { at + 17 ≤ length out.old }
-    ensures { Wrote out.old out.new at (place_codec.write (place_of place)) result }
-{
-    let end = put_numbers(out, at, &[place.table, place.slot]);
-    put_byte(out, end, rights_of(place))
-}
-
-// A count, and so many numbers.
-fn put_list(out: &mut [u8], at: usize, list: Numbers<'_>) -> usize
-    requires { (at + (1 + 8 * length (numbers_of list)) ≤ length out.old) × (length (numbers_of list) < 256) }
-    ensures { Wrote out.old out.new at (length (numbers_of list.entry) ∷ numbers_bytes (numbers_of
-        list.entry)) result }
-{
-    let end = put_byte(out, at, list.len() as u8);
-    match list {
-        Numbers::None => end,
-        Numbers::One(number) => put_number(out, end, number),
-        Numbers::Name(words) => put_words(out, end, &words),
-        Numbers::Registers(registers) => put_words(out, end, &registers.words),
-        Numbers::Lent(bytes) => put_lent(out, end, bytes),
-    }
-}
-
-fn put_place_if(out: &mut [u8], at: usize, there: bool, place: Place) -> usize
-    requires { at + length ((place_if there).write (place_of place)) ≤ length out.old }
-    ensures { Wrote out.old out.new at ((place_if there).write (place_of place)) result }
-{
-    if there {
-        return put_place(out, at, place);
-    }
-    at
-}
-
-fn put_list_if(out: &mut [u8], at: usize, most: Option<u8>, list: Numbers<'_>) -> usize
-    requires { (at + length ((list_if most).write (numbers_of list)) ≤ length out.old) × (few most (length (numbers_of list)) ≡ true) }
-    ensures { Wrote out.old out.new at ((list_if most).write (numbers_of list.entry)) result }
-{
-    match most {
-        Some(_most) => put_list(out, at, list),
-        None => at,
-    }
 }
 
 fn place_size(there: bool) -> usize
@@ -143,8 +148,10 @@ pub fn write(
     if out.len() < needed {
         return Err(Unwritten::TooShort { needed });
     }
-    let at = put_byte(out, 0, number);
-    let at = put_numbers(out, at, &fields.numbers[0..count]);
-    let at = put_place_if(out, at, shape.place, fields.place);
-    Ok(put_list_if(out, at, shape.list, fields.list))
+    let mut writer = Writer { out, at: 0 };
+    writer.byte(number);
+    writer.numbers(&fields.numbers[0..count]);
+    writer.place_if(shape.place, fields.place);
+    writer.list_if(shape.list, fields.list);
+    Ok(writer.at)
 }

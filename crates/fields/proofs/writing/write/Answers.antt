@@ -1,6 +1,6 @@
 use Rattle.std.proofs.Common.{◌≡◌, ◌≤◌, length, refl, arith}
 use Rattle.fields.specs.Shapes.{place_of, body_of}
-use Rattle.fields.proofs.Puts.{length_place_if, length_message, wrote_first, wrote_message}
+use Rattle.fields.proofs.Puts.{length_place_if, length_message, put_first, put_message}
 use Rattle.fields.proofs.writing.write.Goals as goal
 
 pub overflow_add-needed-2 : goal.overflow_add-needed-2
@@ -21,30 +21,30 @@ returns-then-out-needed c =
     let l = length_message c.args.shape c.args.number (body_of c.args.fields) four in
     (c.in_ok-listed.ensures.0, omega (arith, l, c.place_size.ensures (place_of c.args.fields.place), c.in_ok-listed.ensures.1), c.if-out-needed.true, refl)
 
-pub put_place_if-at-requires : goal.put_place_if-at-requires
-put_place_if-at-requires c =
+pub place_if-requires : goal.place_if-requires
+place_if-requires c =
     let few : c.args.shape.numbers ≤ length c.args.fields.numbers = omega arith in
-    let n = wrote_first _ _ c.args.fields.numbers c.args.shape.numbers _ _ few c.put_numbers-at.ensures in
+    let n = put_first _ _ c.args.fields.numbers c.args.shape.numbers few c.numbers.ensures in
     omega (
       arith,
       n.1,
-      c.put_byte-at.ensures.ends,
-      c.put_byte-at.ensures.long,
-      c.put_numbers-at.ensures.long,
+      c.byte.ensures.wrote.ends,
+      c.byte.ensures.wrote.long,
+      c.numbers.ensures.wrote.long,
       c.place_size.ensures (place_of c.args.fields.place),
     )
 
-pub put_list_if-requires : goal.put_list_if-requires
-put_list_if-requires c =
+pub list_if-requires : goal.list_if-requires
+list_if-requires c =
     let few : c.args.shape.numbers ≤ length c.args.fields.numbers = omega arith in
-    let n = wrote_first _ _ c.args.fields.numbers c.args.shape.numbers _ _ few c.put_numbers-at.ensures in
-    let p = c.put_place_if-at.ensures in (
+    let n = put_first _ _ c.args.fields.numbers c.args.shape.numbers few c.numbers.ensures in
+    let p = c.place_if.ensures.wrote in (
       omega (
         arith,
         n.1,
-        c.put_byte-at.ensures.ends,
-        c.put_byte-at.ensures.long,
-        c.put_numbers-at.ensures.long,
+        c.byte.ensures.wrote.ends,
+        c.byte.ensures.wrote.long,
+        c.numbers.ensures.wrote.long,
         c.place_size.ensures (place_of c.args.fields.place),
         p.ends,
         p.long,
@@ -57,10 +57,10 @@ pub returns : goal.returns
 returns c =
     let few : c.args.shape.numbers ≤ length c.args.fields.numbers = omega arith in
     let four : length c.args.fields.numbers ≡ 4 = omega arith in
-    let n = wrote_first _ _ c.args.fields.numbers c.args.shape.numbers _ _ few c.put_numbers-at.ensures in
+    let n = put_first _ _ c.args.fields.numbers c.args.shape.numbers few c.numbers.ensures in
     let l = length_message c.args.shape c.args.number (body_of c.args.fields) four in
-    let w = wrote_message c.args.shape c.args.number (body_of c.args.fields) c.args.out.now c.put_byte-at.new.out
-    c.put_numbers-at.new.out c.put_place_if-at.new.out c.put_list_if.new.out _ _ _ _
+    let w = put_message c.args.shape c.args.number (body_of c.args.fields) _ c.byte.new.self c.numbers.new.self
+    c.place_if.new.self c.list_if.new.self refl
     (omega (arith, l, c.place_size.ensures (place_of c.args.fields.place), c.in_ok-listed.ensures.1))
-    c.put_byte-at.ensures n.0 c.put_place_if-at.ensures c.put_list_if.ensures in
-    (c.in_ok-listed.ensures.0, w.0, w.1)
+    c.byte.ensures n.0 c.place_if.ensures c.list_if.ensures in
+    (c.in_ok-listed.ensures.0, w.0, grind (arith, w.1, w.2))
