@@ -7,23 +7,23 @@ ghost use Rattle.building.specs.Made.{made_cell, made_thread, given};
 
 use crate::free::free_page;
 use answers::Reason;
+use lookups::Memory;
 use pages::{Phase, Record};
 use sha256::Measure;
 
 // Whether a cell may be made of two pages.
-fn may_make(memory: &[u64], first: u64, top: u64) -> Result<(), Reason>
-    requires { Sized memory.now }
+fn may_make(memory: &Memory<'_>, first: u64, top: u64) -> Result<(), Reason>
     ensures { Checked (make_checks memory.now first top) (λ _. (first < slice_index memory.now 0) × (top < slice_index_or
         memory.now 0 0)) result }
 {
-    let pages = pages::pages(memory);
+    let pages = memory.pages();
     if first >= pages || top >= pages || first == top {
         return Err(Reason::NotThere);
     }
-    let Record::Free = lookups::record_of(memory, first) else {
+    let Record::Free = memory.record_of(first) else {
         return Err(Reason::InUse);
     };
-    let Record::Free = lookups::record_of(memory, top) else {
+    let Record::Free = memory.record_of(top) else {
         return Err(Reason::InUse);
     };
     Ok(())
@@ -35,7 +35,7 @@ pub fn new_cell(memory: &mut [u64], first: u64, top: u64) -> Result<(), Reason>
     ensures { Taken (make_checks memory.old first top) memory.old (made_cell memory.old first top)
         memory.new result }
 {
-    may_make(memory, first, top)?;
+    may_make(&Memory::of(memory), first, top)?;
     full_pages::put_record(
         memory,
         first,
@@ -50,12 +50,11 @@ pub fn new_cell(memory: &mut [u64], first: u64, top: u64) -> Result<(), Reason>
 }
 
 // Whether a page may be a thread of a cell.
-fn may_start(memory: &[u64], page: u64, cell: u64) -> Result<(), Reason>
-    requires { Sized memory.now }
+fn may_start(memory: &Memory<'_>, page: u64, cell: u64) -> Result<(), Reason>
     ensures { Checked (start_checks memory.now page cell) (λ _. (page < slice_index memory.now 0) × (cell < slice_index_or
         memory.now 0 0)) result }
 {
-    let Some(has) = lookups::cell_of(memory, cell) else {
+    let Some(has) = memory.cell_of(cell) else {
         return Err(Reason::NoCell);
     };
     free_page(memory, page)?;
@@ -71,7 +70,7 @@ pub fn new_thread(memory: &mut [u64], page: u64, cell: u64, start: u32) -> Resul
     requires { Sized memory.old }
     ensures { Taken (start_checks memory.old page cell) memory.old (made_thread memory.old page cell start) memory.new result }
 {
-    may_start(memory, page, cell)?;
+    may_start(&Memory::of(memory), page, cell)?;
     let measure = pages::measure_at(memory, cell).two_words(2, start);
     full_pages::put_record(
         memory,
@@ -87,11 +86,10 @@ pub fn new_thread(memory: &mut [u64], page: u64, cell: u64, start: u32) -> Resul
 }
 
 // Whether a page may be given to a cell.
-fn may_give(memory: &[u64], page: u64, cell: u64) -> Result<(), Reason>
-    requires { Sized memory.now }
+fn may_give(memory: &Memory<'_>, page: u64, cell: u64) -> Result<(), Reason>
     ensures { Checked (give_checks memory.now page cell) (λ _. page < slice_index memory.now 0) result }
 {
-    let Some(cell) = lookups::cell_of(memory, cell) else {
+    let Some(cell) = memory.cell_of(cell) else {
         return Err(Reason::NoCell);
     };
     free_page(memory, page)?;
@@ -106,7 +104,7 @@ pub fn give(memory: &mut [u64], page: u64, cell: u64) -> Result<(), Reason>
     requires { Sized memory.old }
     ensures { Taken (give_checks memory.old page cell) memory.old (given memory.old page cell) memory.new result }
 {
-    may_give(memory, page, cell)?;
+    may_give(&Memory::of(memory), page, cell)?;
     full_pages::put_record(memory, page, Record::Spare { cell });
     Ok(())
 }

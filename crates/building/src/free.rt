@@ -5,17 +5,17 @@ ghost use Rattle.lookups.specs.Outcomes.{Checked};
 ghost use Rattle.building.specs.Checks.{free_checks};
 
 use answers::Reason;
+use lookups::Memory;
 use pages::Record;
 
 // Whether a page is there, and free.
-pub fn free_page(memory: &[u64], page: u64) -> Result<(), Reason>
-    requires { Sized memory.now }
+pub fn free_page(memory: &Memory<'_>, page: u64) -> Result<(), Reason>
     ensures { Checked (free_checks memory.now page) (λ _. page < slice_index memory.now 0) result }
 {
-    if page >= pages::pages(memory) {
+    if page >= memory.pages() {
         return Err(Reason::NotThere);
     }
-    let Record::Free = lookups::record_of(memory, page) else {
+    let Record::Free = memory.record_of(page) else {
         return Err(Reason::InUse);
     };
     Ok(())

@@ -11,39 +11,38 @@ ghost use Rattle.building.specs.Made.{table_for, made_held, source_words, held_m
 use crate::free::free_page;
 use answers::Reason;
 use fields::Place;
-use lookups::InRange;
+use lookups::{InRange, Memory};
 use pages::{Phase, Record, Slot};
 use sha256::Measure;
 
 // Whether an open page is there, or none is asked for.
-fn may_copy(memory: &[u64], source: Option<u64>) -> bool
-    requires { Sized memory.now }
+fn may_copy(memory: &Memory<'_>, source: Option<u64>) -> bool
     ensures { result ≡ source_there memory.now source }
 {
-    source.is_none_or(|open| open < pages::opens(memory))
+    let opens = memory.opens();
+    source.is_none_or(|open| open < opens)
 }
 
 // Whether a cell may hold a page at a place; hands on the table that the place is in.
 fn may_hold(
-    memory: &[u64],
+    memory: &Memory<'_>,
     page: u64,
     cell: u64,
     at: InRange,
     source: Option<u64>,
 ) -> Result<u64, Reason>
-    requires { Sized memory.now }
     ensures { Checked (hold_checks memory.now page cell (place_of at.place) source)
         (λ table. (table ≡ table_for memory.now cell (place_of at.place)) × (table < slice_index memory.now 0)
         × (page < slice_index memory.now 0)
         × (cell < slice_index memory.now 0) × (source_there memory.now source ≡ true)) result }
 {
-    let Some(has) = lookups::cell_of(memory, cell) else {
+    let Some(has) = memory.cell_of(cell) else {
         return Err(Reason::NoCell);
     };
     let Phase::Building = has.phase else {
         return Err(Reason::NotBuilding);
     };
-    let Some(table) = lookups::vacant(memory, has.top, at) else {
+    let Some(table) = memory.vacant(has.top, at) else {
         return Err(Reason::NotVacant);
     };
     if !may_copy(memory, source) {
@@ -109,7 +108,7 @@ pub fn hold(
     ensures closed { Taken (hold_checks memory.old page cell (place_of at.place) source) closed.old
         (held_pages closed.old «open».now page source) closed.new result }
 {
-    let table = may_hold(memory, page, cell, at, source)?;
+    let table = may_hold(&Memory::of(memory), page, cell, at, source)?;
     fill(closed, page, open, source);
     let measure = measured(memory, cell, at, pages::page_at(closed, page));
     become_held(memory, page, cell, table, at.place);

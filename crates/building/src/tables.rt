@@ -10,12 +10,11 @@ ghost use Rattle.building.specs.Made.{made_table, table_for, shown};
 
 use crate::free::free_page;
 use answers::Reason;
-use lookups::InRange;
+use lookups::{InRange, Memory};
 use pages::{Phase, Record, Slot};
 
 // Whether a page may be a table of a cell, at a place of its top table; hands on the top table's page.
-fn may_add(memory: &[u64], page: u64, cell: u64, index: u64) -> Result<u64, Reason>
-    requires { Sized memory.now }
+fn may_add(memory: &Memory<'_>, page: u64, cell: u64, index: u64) -> Result<u64, Reason>
     ensures { Checked (add_checks memory.now page cell index)
         (λ top. (top ≡ top_of (cell_of memory.now cell)) × (top < slice_index memory.now 0) × (page < slice_index memory.now 0)
         × (index < 256)) result }
@@ -23,13 +22,13 @@ fn may_add(memory: &[u64], page: u64, cell: u64, index: u64) -> Result<u64, Reas
     if index >= 256 {
         return Err(Reason::NotVacant);
     }
-    let Some(cell) = lookups::cell_of(memory, cell) else {
+    let Some(cell) = memory.cell_of(cell) else {
         return Err(Reason::NoCell);
     };
     if let Phase::Stopped = cell.phase {
         return Err(Reason::Stopped);
     }
-    let None = lookups::table_of(memory, cell.top, index) else {
+    let None = memory.table_of(cell.top, index) else {
         return Err(Reason::PlaceInUse);
     };
     free_page(memory, page)?;
@@ -54,28 +53,27 @@ pub fn new_table(memory: &mut [u64], page: u64, cell: u64, index: u64) -> Result
     ensures { Taken (add_checks memory.old page cell index) memory.old
         (made_table memory.old page cell (top_of (cell_of memory.old cell)) index) memory.new result }
 {
-    let top = may_add(memory, page, cell, index)?;
+    let top = may_add(&Memory::of(memory), page, cell, index)?;
     become_table(memory, page, cell, top, index);
     Ok(())
 }
 
 // Whether a cell may be shown an open page at a place; hands on the table that the place is in.
-fn may_show(memory: &[u64], open: u64, cell: u64, at: InRange) -> Result<u64, Reason>
-    requires { Sized memory.now }
+fn may_show(memory: &Memory<'_>, open: u64, cell: u64, at: InRange) -> Result<u64, Reason>
     ensures { Checked (show_checks memory.now «open» cell (place_of at.place))
         (λ table. (table ≡ table_for memory.now cell (place_of at.place)) × (table < slice_index memory.now 0)
         × («open» < slice_index memory.now 1)) result }
 {
-    let Some(cell) = lookups::cell_of(memory, cell) else {
+    let Some(cell) = memory.cell_of(cell) else {
         return Err(Reason::NoCell);
     };
     let Phase::Building = cell.phase else {
         return Err(Reason::NotBuilding);
     };
-    let Some(table) = lookups::vacant(memory, cell.top, at) else {
+    let Some(table) = memory.vacant(cell.top, at) else {
         return Err(Reason::NotVacant);
     };
-    if open >= pages::opens(memory) {
+    if open >= memory.opens() {
         return Err(Reason::NotThere);
     }
     Ok(table)
@@ -87,7 +85,7 @@ pub fn show(memory: &mut [u64], open: u64, cell: u64, at: InRange) -> Result<(),
     ensures { Taken (show_checks memory.old «open» cell (place_of at.place)) memory.old
         (shown memory.old «open» cell (place_of at.place)) memory.new result }
 {
-    let table = may_show(memory, open, cell, at)?;
+    let table = may_show(&Memory::of(memory), open, cell, at)?;
     pages::put_slot(
         memory,
         table,

@@ -10,7 +10,7 @@ use crate::answering::told;
 use answers::{Answer, Ending, Reason};
 use calls::Call;
 use fields::Numbers;
-use lookups::Caller;
+use lookups::{Caller, Memory};
 
 // A call whose numbers are in range, while a cell runs: the system's is refused then.
 pub fn by_cell(
@@ -47,7 +47,7 @@ pub fn by_cell(
         Call::Extend { page, index } => told(growing::extend(memory, caller, page, index)),
         Call::Who => Answer::Told {
             error: 0,
-            numbers: Numbers::Name(running::who(memory, caller)),
+            numbers: Numbers::Name(running::who(&Memory::of(memory), caller)),
         },
         Call::Draw { number } => Answer::Told {
             error: 0,

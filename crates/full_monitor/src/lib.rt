@@ -19,10 +19,12 @@ use answers::{Answer, Reason, Refusal};
 use calls::Call;
 use cells::by_cell;
 use fields::Unwritten;
+use lookups::Memory;
 pub use monitor::{LONGEST, Limits, Reply, in_range, open};
 pub use promises::{cells_are_kept, program_is_right, tells_no_secrets};
 use system::by_system;
 
+// The three slices are lent through the C interface; a struct of them would be taken apart again for each room, which has one or two of them.
 // A call: out of range it is refused by 2; then it is the system's while no cell runs, or that of the cell that does.
 fn taken(memory: &mut [u64], closed: &mut [u32], open: &[u32], call: Call<'_>) -> Answer<'static>
     requires { Lent memory.old closed.old «open».now }
@@ -34,7 +36,7 @@ fn taken(memory: &mut [u64], closed: &mut [u32], open: &[u32], call: Call<'_>) -
     let Some(_) = pages::running(memory) else {
         return by_system(memory, closed, open, call);
     };
-    let Some(caller) = lookups::who_calls(memory) else {
+    let Some(caller) = Memory::of(memory).who_calls() else {
         return Reason::NotNow.into();
     };
     by_cell(memory, closed, open, caller, call)

@@ -12,23 +12,21 @@ ghost use Rattle.growing.specs.Made.{grown, grown_pages, shrunk, extended};
 
 use answers::Reason;
 use fields::Place;
-use lookups::{Caller, InRange};
+use lookups::{Caller, InRange, Memory};
 use pages::{Record, Slot};
 
 // Whether a page is the caller's, and spare. This and the next are two functions, for a pattern cannot be handed on.
-fn owns_spare(memory: &[u64], caller: Caller, page: u64) -> bool
-    requires { Sized memory.now }
+fn owns_spare(memory: &Memory<'_>, caller: Caller, page: u64) -> bool
     ensures { result ≡ own_spare memory.now caller page }
 {
-    matches!(lookups::record_of(memory, page), Record::Spare { cell } if cell == caller.cell)
+    matches!(memory.record_of(page), Record::Spare { cell } if cell == caller.cell)
 }
 
 // Whether a page is the caller's, and held.
-fn holds(memory: &[u64], caller: Caller, page: u64) -> bool
-    requires { Sized memory.now }
+fn holds(memory: &Memory<'_>, caller: Caller, page: u64) -> bool
     ensures { result ≡ own_held memory.now caller page }
 {
-    matches!(lookups::record_of(memory, page), Record::Held { cell } if cell == caller.cell)
+    matches!(memory.record_of(page), Record::Held { cell } if cell == caller.cell)
 }
 
 // Whether a place is one of a cell's tables.
@@ -39,8 +37,8 @@ pub fn in_range(place: Place) -> bool
 }
 
 // Whether a spare page of the caller may be held at a place; hands on the table that the place is in.
-fn may_grow(memory: &[u64], caller: Caller, page: u64, place: Place) -> Result<u64, Reason>
-    requires { (Sized memory.now) × (IsThere memory.now caller) }
+fn may_grow(memory: &Memory<'_>, caller: Caller, page: u64, place: Place) -> Result<u64, Reason>
+    requires { IsThere memory.now caller }
     ensures { Checked (grow_checks memory.now caller page (place_of place))
         (λ table. (table ≡ unwrap_or (vacant memory.now caller.top (place_of place)) 0) × (table < slice_index memory.now 0)
         × (page < slice_index memory.now 0)
@@ -52,7 +50,7 @@ fn may_grow(memory: &[u64], caller: Caller, page: u64, place: Place) -> Result<u
     let Some(at) = InRange::of(place) else {
         return Err(Reason::NotVacant);
     };
-    let Some(table) = lookups::vacant(memory, caller.top, at) else {
+    let Some(table) = memory.vacant(caller.top, at) else {
         return Err(Reason::NotVacant);
     };
     Ok(table)
@@ -72,7 +70,7 @@ pub fn grow(
     ensures closed { Taken (grow_checks memory.old caller page (place_of place)) closed.old
         (grown_pages closed.old page) closed.new result }
 {
-    let table = may_grow(memory, caller, page, place)?;
+    let table = may_grow(&Memory::of(memory), caller, page, place)?;
     pages::zero_page(closed, page);
     building::become_held(memory, page, caller.cell, table, place);
     Ok(())
@@ -80,8 +78,8 @@ pub fn grow(
 
 // Whether a page of the caller is seen at a place; hands on the table that the place is in. The checks stand in line, as those of growing
 // do: one function for both would have to take the first and the last of them as closures.
-fn may_shrink(memory: &[u64], caller: Caller, page: u64, place: Place) -> Result<u64, Reason>
-    requires { (Sized memory.now) × (IsThere memory.now caller) }
+fn may_shrink(memory: &Memory<'_>, caller: Caller, page: u64, place: Place) -> Result<u64, Reason>
+    requires { IsThere memory.now caller }
     ensures { Checked (shrink_checks memory.now caller page (place_of place))
         (λ table. (table ≡ unwrap_or (showing memory.now caller.top (place_of place) page) 0) × (table < slice_index memory.now 0)
         × (page < slice_index memory.now 0)
@@ -93,7 +91,7 @@ fn may_shrink(memory: &[u64], caller: Caller, page: u64, place: Place) -> Result
     let Some(at) = InRange::of(place) else {
         return Err(Reason::NotVacant);
     };
-    let Some(table) = lookups::showing(memory, caller.top, at, page) else {
+    let Some(table) = memory.showing(caller.top, at, page) else {
         return Err(Reason::NotVacant);
     };
     Ok(table)
@@ -105,15 +103,15 @@ pub fn shrink(memory: &mut [u64], caller: Caller, page: u64, place: Place) -> Re
     ensures { Taken (shrink_checks memory.old caller page (place_of place)) memory.old
         (shrunk memory.old caller page (place_of place)) memory.new result }
 {
-    let table = may_shrink(memory, caller, page, place)?;
+    let table = may_shrink(&Memory::of(memory), caller, page, place)?;
     pages::put_slot(memory, table, place.slot, Slot::Nothing);
     full_pages::put_record(memory, page, Record::Spare { cell: caller.cell });
     Ok(())
 }
 
 // Whether a spare page of the caller may be a table, at a place of its top table.
-fn may_extend(memory: &[u64], caller: Caller, page: u64, index: u64) -> Result<(), Reason>
-    requires { (Sized memory.now) × (IsThere memory.now caller) }
+fn may_extend(memory: &Memory<'_>, caller: Caller, page: u64, index: u64) -> Result<(), Reason>
+    requires { IsThere memory.now caller }
     ensures { Checked (extend_checks memory.now caller page index) (λ _. (page < slice_index memory.now 0) × (index
         < 256)) result }
 {
@@ -123,7 +121,7 @@ fn may_extend(memory: &[u64], caller: Caller, page: u64, index: u64) -> Result<(
     if !owns_spare(memory, caller, page) {
         return Err(Reason::NotThere);
     }
-    let None = lookups::table_of(memory, caller.top, index) else {
+    let None = memory.table_of(caller.top, index) else {
         return Err(Reason::PlaceInUse);
     };
     Ok(())
@@ -134,7 +132,7 @@ pub fn extend(memory: &mut [u64], caller: Caller, page: u64, index: u64) -> Resu
     requires { (Sized memory.old) × (IsThere memory.old caller) }
     ensures { Taken (extend_checks memory.old caller page index) memory.old (extended memory.old caller page index) memory.new result }
 {
-    may_extend(memory, caller, page, index)?;
+    may_extend(&Memory::of(memory), caller, page, index)?;
     building::become_table(memory, page, caller.cell, caller.top, index);
     Ok(())
 }

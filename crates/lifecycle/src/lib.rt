@@ -10,15 +10,15 @@ ghost use Rattle.lifecycle.specs.Checks.{remove_checks, seal_checks, stop_checks
 ghost use Rattle.lifecycle.specs.Made.{in_phase};
 
 use answers::Reason;
+use lookups::Memory;
 use pages::{Phase, Record};
 
 // Whether a page may be taken from the cell that it is a part of: that is stopped, or sealed, and the page is spare.
-fn may_go(memory: &[u64], page: Record, owner: u64) -> bool
-    requires { Sized memory.now }
+fn may_go(memory: &Memory<'_>, page: Record, owner: u64) -> bool
     ensures { result ≡ (is_stopped (cell_of memory.now owner) || (is_sealed (cell_of memory.now owner) && is_some
         (spare_in page))) }
 {
-    let Some(cell) = lookups::cell_of(memory, owner) else {
+    let Some(cell) = memory.cell_of(owner) else {
         return false;
     };
     match cell.phase {
@@ -29,15 +29,14 @@ fn may_go(memory: &[u64], page: Record, owner: u64) -> bool
 }
 
 // Whether a page may be removed.
-fn may_remove(memory: &[u64], page: u64) -> Result<(), Reason>
-    requires { Sized memory.now }
+fn may_remove(memory: &Memory<'_>, page: u64) -> Result<(), Reason>
     ensures { Checked (remove_checks memory.now page) (λ _. page < slice_index memory.now 0) result }
 {
-    if page >= pages::pages(memory) {
+    if page >= memory.pages() {
         return Err(Reason::NotThere);
     }
-    let is = lookups::record_of(memory, page);
-    if matches!(is, Record::Cell { .. }) && lookups::has_parts(memory, page) {
+    let is = memory.record_of(page);
+    if matches!(is, Record::Cell { .. }) && memory.has_parts(page) {
         return Err(Reason::InUse);
     }
     let Some(owner) = lookups::part_of(is) else {
@@ -54,7 +53,7 @@ pub fn remove(memory: &mut [u64], page: u64) -> Result<(), Reason>
     requires { Sized memory.old }
     ensures { Taken (remove_checks memory.old page) memory.old (cleared memory.old page) memory.new result }
 {
-    may_remove(memory, page)?;
+    may_remove(&Memory::of(memory), page)?;
     full_pages::let_go(memory, page);
     Ok(())
 }
@@ -64,7 +63,7 @@ pub fn seal(memory: &mut [u64], cell: u64) -> Result<(), Reason>
     requires { Sized memory.old }
     ensures { Taken (seal_checks memory.old cell) memory.old (in_phase memory.old cell sealed) memory.new result }
 {
-    let Some(has) = lookups::cell_of(memory, cell) else {
+    let Some(has) = Memory::of(memory).cell_of(cell) else {
         return Err(Reason::NoCell);
     };
     let Phase::Building = has.phase else {
@@ -79,7 +78,7 @@ pub fn stop(memory: &mut [u64], cell: u64) -> Result<(), Reason>
     requires { Sized memory.old }
     ensures { Taken (stop_checks memory.old cell) memory.old (in_phase memory.old cell stopped) memory.new result }
 {
-    let Some(_) = lookups::cell_of(memory, cell) else {
+    let Some(_) = Memory::of(memory).cell_of(cell) else {
         return Err(Reason::NoCell);
     };
     pages::put_phase(memory, cell, Phase::Stopped);

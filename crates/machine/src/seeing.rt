@@ -8,6 +8,7 @@ ghost use Rattle.machine.specs.Lent.{closed_put, open_put};
 ghost use Rattle.machine.specs.Meaning.{seen_of};
 
 use crate::values::Seen;
+use lookups::Memory;
 use pages::Slot;
 
 // How many places a top table has, and slots a table.
@@ -43,18 +44,18 @@ impl Lent<'_> {
         requires { Whole self.now }
         ensures { slot_of result ≡ slot_at self.now address }
     {
-        let memory = self.memory;
+        let memory = Memory::of(self.memory);
         let address = u64::from(address);
         let table = address / (SLOTS * PAGE_BYTES);
         if table >= PLACES {
             return Slot::Nothing;
         }
-        let Some(table) = lookups::table_of(memory, self.top, table) else {
+        let Some(table) = memory.table_of(self.top, table) else {
             return Slot::Nothing;
         };
-        match pages::slot_at(memory, table, address / PAGE_BYTES % SLOTS) {
-            Slot::Closed { page, .. } if page >= pages::pages(memory) => Slot::Nothing,
-            Slot::Opened { page, .. } if page >= pages::opens(memory) => Slot::Nothing,
+        match pages::slot_at(self.memory, table, address / PAGE_BYTES % SLOTS) {
+            Slot::Closed { page, .. } if page >= memory.pages() => Slot::Nothing,
+            Slot::Opened { page, .. } if page >= memory.opens() => Slot::Nothing,
             slot => slot,
         }
     }

@@ -13,7 +13,7 @@ mod registers;
 
 use answers::Reason;
 use fields::Registers;
-use lookups::{Caller, Cell, Thread};
+use lookups::{Caller, Cell, Memory, Thread};
 use pages::Phase;
 pub use registers::registers_from;
 
@@ -27,12 +27,11 @@ pub struct Entry {
 const NO_REGISTERS: Registers = Registers { words: [0; 17] };
 
 // The cell of a thread, if it is sealed.
-fn sealed_cell(memory: &[u64], thread: Thread) -> Option<Cell>
-    requires { Sized memory.now }
+fn sealed_cell(memory: &Memory<'_>, thread: Thread) -> Option<Cell>
     ensures { result ≡ cond (is_sealed (cell_of memory.now thread.cell)) (cell_of memory.now thread.cell)
         None }
 {
-    let cell = lookups::cell_of(memory, thread.cell)?;
+    let cell = memory.cell_of(thread.cell)?;
     let Phase::Sealed = cell.phase else {
         return None;
     };
@@ -56,10 +55,11 @@ pub fn enter(memory: &mut [u64], thread: u64, x: u32, y: u32, z: u32) -> Result<
     requires { Sized memory.old }
     ensures { Entered (enter_checks memory.old thread) memory.old thread (first_registers memory.old thread x y z) memory.new result }
 {
-    let Some(has) = lookups::thread_of(memory, thread) else {
+    let seen = Memory::of(memory);
+    let Some(has) = seen.thread_of(thread) else {
         return Err(Reason::NotThere);
     };
-    let Some(cell) = sealed_cell(memory, has) else {
+    let Some(cell) = sealed_cell(&seen, has) else {
         return Err(Reason::NotSealed);
     };
     if has.under_way {
@@ -77,10 +77,11 @@ pub fn resume(memory: &mut [u64], thread: u64) -> Result<Entry, Reason>
     requires { Sized memory.old }
     ensures { Entered (resume_checks memory.old thread) memory.old thread (kept_registers memory.old thread) memory.new result }
 {
-    let Some(has) = lookups::thread_of(memory, thread) else {
+    let seen = Memory::of(memory);
+    let Some(has) = seen.thread_of(thread) else {
         return Err(Reason::NotThere);
     };
-    let Some(cell) = sealed_cell(memory, has) else {
+    let Some(cell) = sealed_cell(&seen, has) else {
         return Err(Reason::NotSealed);
     };
     if !has.under_way {
@@ -113,9 +114,9 @@ pub fn interrupt(memory: &mut [u64], caller: Caller, registers: Registers)
 }
 
 // The name of the cell that asks, as eight words.
-pub fn who(memory: &[u64], caller: Caller) -> [u32; 8]
-    requires { (Sized memory.now) × (IsThere memory.now caller) }
+pub fn who(memory: &Memory<'_>, caller: Caller) -> [u32; 8]
+    requires { IsThere memory.now caller }
     ensures { result ≡ name_words (measure_in memory.now caller.cell) }
 {
-    pages::measure_at(memory, caller.cell).name()
+    memory.measure_at(caller.cell).name()
 }

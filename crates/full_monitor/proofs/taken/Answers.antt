@@ -19,7 +19,7 @@ returns-in_default-who_calls c =
     let cs = c.args.closed.now in
     let os = c.args.open.now in
     let runs = ap is_some (sym c.running.ensures ∙ c.in-Some.is) in
-    let none = sym c.who_calls.ensures.value ∙ c.in_default-who_calls.is in
+    let none = sym (rw c.of.ensures at c.who_calls.ensures.value) ∙ c.in_default-who_calls.is in
     let d = sides c.args.call (λ q. fits q ≡ true → Does m cs os q (refused (record { number = 14; place = 0 })) m cs)
     (λ x f. system_waits m cs os _ f x refl runs) (λ x f. cell_waits m cs os _ f x refl none) (sym c.if-not-fits.ensures) in
     record { answer = ap answer_of c.into-in_default-who_calls.ensures ∙ d.answer; memory = d.memory; pages = d.pages }

@@ -10,7 +10,7 @@ use Rattle.building.proofs.holding.hold.Goals as goal
 
 pub measured-measure-requires : goal.measured-measure-requires
 measured-measure-requires c =
-    let ok = c.in_ok-table.ensures.1 in
+    let ok = (rw c.of.ensures at c.in_ok-table.ensures).1 in
     let there : HasWords c.fill.new.closed c.args.page = omega (arith, ok.2, c.fill.auto.closed) in
     (omega (arith, ok.3), ap length c.page_at.ensures ∙ length_page c.fill.new.closed c.args.page there)
 
@@ -19,7 +19,7 @@ returns c =
     let m : List ℕ = c.args.memory.now in
     let os : List ℕ = c.args.open.now in
     let ws : List ℕ = source_words os c.args.source in
-    let ok = c.in_ok-table.ensures in
+    let ok = rw c.of.ensures at c.in_ok-table.ensures in
     let long : length ws ≡ 1024 = length_source os c.args.source (source_fits m os c.args.source ok.1.4 (omega arith)) in
     let words = c.page_at.ensures ∙ ap (λ x. page_in x c.args.page) c.fill.ensures
     ∙ read_back c.args.closed.now c.args.page ws (omega arith) long in

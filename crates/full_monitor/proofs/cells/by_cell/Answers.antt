@@ -54,7 +54,7 @@ returns-in-Extend c =
 pub returns-in-Who : goal.returns-in-Who
 returns-in-Who c =
     cell_does c.args.memory.now c.args.closed.now c.args.open.now (call_of c.args.call) c.requires.fits c.args.caller
-    who (ap call_of c.in-Who.is) c.requires.calls _ _ _ (ap (told 0) c.who.ensures) refl refl
+    who (ap call_of c.in-Who.is) c.requires.calls _ _ _ (ap (told 0) (rw c.of.ensures at c.who.ensures)) refl refl
 
 pub returns-in-Draw : goal.returns-in-Draw
 returns-in-Draw c =
