@@ -1,18 +1,21 @@
 // One step, and so many of them.
-ghost use Rattle.std.specs.Prelude.{◌≡◌, ◌*◌, length, Some, None, slice_index};
+ghost use Rattle.std.specs.Prelude.{◌≡◌, ◌*◌, length, Some, None, MatchOption, slice_index};
 ghost use Rattle.std.specs.Option.{option_map};
 ghost use Rattle.std.specs.Ordering.{ordering_index};
 ghost use Rattle.model.specs.Calls.{by_cell, fault};
+ghost use Rattle.fields.specs.Tables.{find};
+ghost use Rattle.calls.specs.Kinds.{kind_number};
 ghost use Rattle.calls.specs.Meaning.{call_of};
+ghost use Rattle.calls.specs.Table.{table};
 ghost use Rattle.machine.specs.Held.{words_of, sees, Whole, Kept};
 ghost use Rattle.machine.specs.Lent.{Fit};
 ghost use Rattle.machine.specs.Came.{left, ended_with, Comes, Runs, Refines};
-ghost use Rattle.machine.specs.Faults.{kind_number};
+ghost use Rattle.machine.specs.Faults.{kind_number as fault_number};
 ghost use Rattle.machine.specs.Instructions.{register, with_register, order, holds, asked, jumped, loaded, stored, executed, made_up};
 
 use crate::seeing::Lent;
 use crate::values::{FaultKind, Instruction, Ran, Stepped, When};
-use calls::Call;
+use calls::{Call, Kind};
 use fields::{Numbers, Registers};
 use std::cmp::Ordering;
 use std::ops::ControlFlow::{Break, Continue};
@@ -77,29 +80,37 @@ fn jumped(registers: Registers, words: u32) -> Registers
     put(registers, NEXT, get(registers, NEXT).wrapping_add(bytes))
 }
 
+// The kind of call that has a number, if one does.
+fn kind_of(number: u32) -> Option<Kind>
+    ensures { MatchOption result (find number table ≡ None) (λ kind. kind_number kind ≡ number) }
+{
+    let number = u8::try_from(number).ok()?;
+    Kind::try_from(number).ok()
+}
+
 // The call that a program asks for, with what registers 0 and 1 have; none but these are known.
 fn ask(call: u32, registers: Registers, chance: u32) -> Call<'static>
     ensures { call_of result ≡ by_cell (asked call registers.words chance) }
 {
     let first = u64::from(registers.words[0]);
     let second = registers.words[1];
-    match call {
-        20 => Call::Leave { number: first },
-        22 => Call::Fault { kind: first },
-        23 => Call::Grow {
+    match kind_of(call) {
+        Some(Kind::Leave) => Call::Leave { number: first },
+        Some(Kind::Fault) => Call::Fault { kind: first },
+        Some(Kind::Grow) => Call::Grow {
             page: first,
             place: pages::place_from(second),
         },
-        24 => Call::Shrink {
+        Some(Kind::Shrink) => Call::Shrink {
             page: first,
             place: pages::place_from(second),
         },
-        25 => Call::Extend {
+        Some(Kind::Extend) => Call::Extend {
             page: first,
             index: u64::from(second),
         },
-        26 => Call::Who,
-        27 => Call::Draw {
+        Some(Kind::Who) => Call::Who,
+        Some(Kind::Draw) => Call::Draw {
             number: u64::from(chance),
         },
         _ => Call::Fault {
@@ -110,7 +121,7 @@ fn ask(call: u32, registers: Registers, chance: u32) -> Call<'static>
 
 // A step that ends with a fault.
 fn faults(registers: Registers, kind: FaultKind) -> Stepped
-    ensures { (left result ≡ registers) × (option_map call_of (ended_with result) ≡ Some (by_cell (fault (kind_number kind)))) }
+    ensures { (left result ≡ registers) × (option_map call_of (ended_with result) ≡ Some (by_cell (fault (fault_number kind)))) }
 {
     Break(Ran {
         registers,
