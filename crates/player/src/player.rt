@@ -4,7 +4,7 @@ use crate::lines::Lines;
 use crate::options::Prints;
 use crate::printer::Printer;
 use monitor::{LONGEST, Limits};
-use script::Line;
+use script::{Line, Page, Side};
 use session::{Monitor, Session, Unopened};
 use std::alloc::Global;
 use std::io;
@@ -42,11 +42,10 @@ impl<M: Monitor, W: Write + Drop> Player<M, W> {
         }
     }
 
-    fn write(&mut self, open: bool, page: u64, words: &[u32], line: u64) -> io::Result<()> {
-        let written = if open {
-            self.session.write_open(page, words)
-        } else {
-            self.session.write_closed(page, words)
+    fn write(&mut self, page: Page, words: &[u32], line: u64) -> io::Result<()> {
+        let written = match page.side {
+            Side::Open => self.session.write_open(page.number, words),
+            Side::Closed => self.session.write_closed(page.number, words),
         };
         match written {
             Ok(()) => Ok(()),
@@ -54,14 +53,13 @@ impl<M: Monitor, W: Write + Drop> Player<M, W> {
         }
     }
 
-    fn print(&mut self, open: bool, page: u64, line: u64) -> io::Result<()> {
-        let found = if open {
-            self.session.open_page(page)
-        } else {
-            self.session.closed_page(page)
+    fn print(&mut self, page: Page, line: u64) -> io::Result<()> {
+        let found = match page.side {
+            Side::Open => self.session.open_page(page.number),
+            Side::Closed => self.session.closed_page(page.number),
         };
         match found {
-            Some(words) => self.printer.page(open, page, words),
+            Some(words) => self.printer.page(page, words),
             None => self.printer.unreadable(line),
         }
     }
@@ -77,10 +75,8 @@ impl<M: Monitor, W: Write + Drop> Player<M, W> {
         match what {
             Line::Skip => Ok(()),
             Line::Call { length } => self.call(&bytes[..length.min(2048)]),
-            Line::Write { open, page, count } => {
-                self.write(open, page, &words[..count.min(1024)], line)
-            }
-            Line::Print { open, page } => self.print(open, page, line),
+            Line::Write { page, count } => self.write(page, &words[..count.min(1024)], line),
+            Line::Print { page } => self.print(page, line),
             Line::Limits { .. } | Line::Unreadable => self.printer.unreadable(line),
         }
     }

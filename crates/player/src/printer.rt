@@ -1,5 +1,6 @@
 // What is printed: answers and pages, a line each.
 use answers::{Answer, Refusal};
+use script::Page;
 use std::alloc::Global;
 use std::io::{BufWriter, Write};
 use std::{fmt, io};
@@ -42,9 +43,9 @@ impl<W: Write + Drop> Printer<W> {
         })
     }
 
-    pub fn page(&mut self, open: bool, page: u64, words: &[u32]) -> io::Result<()> {
+    pub fn page(&mut self, page: Page, words: &[u32]) -> io::Result<()> {
         self.shown.clear();
-        script::show_page(open, page, words, &mut self.shown).map_err(no_memory)?;
+        script::show_page(page, words, &mut self.shown).map_err(no_memory)?;
         self.line()
     }
 

@@ -14,6 +14,7 @@ use Rattle.calls.proofs.Stand.{calls_back}
 use Rattle.script.specs.Words.{words}
 use Rattle.script.specs.Numerals.{number_of}
 use Rattle.script.specs.Taking.{and_then, take_number, take_rights, place_with, take_place}
+use Rattle.script.specs.Pages.{is_open}
 use Rattle.script.specs.Forms.{Form, forms}
 use Rattle.script.specs.Fitting.{nothing_taken, with_number, with_place, take_keyword, take_word, fit}
 use Rattle.script.specs.Lines as line
@@ -122,8 +123,8 @@ Carries (Call n) = (t : Taken) → Small t → Carried (call_with (kind_number n
 Carries HoldFrom = Unit {0}
 Carries Interrupt = Unit {0}
 Carries Limits = Unit {0}
-Carries (Write open_page) = Unit {0}
-Carries (Print open_page) = Unit {0}
+Carries (Write side) = Unit {0}
+Carries (Print side) = Unit {0}
 
 none : 0 < 2 ^ 64
 none = omega arith
@@ -295,10 +296,10 @@ meant_carries Interrupt t ws c h s e =
     let a = at_most_some 255 (each number_of ws) m.0 m.1 in
     subst Carried (same_call _ c m.2) (interrupt_carries m.0 (each_small ws m.0 a.0) a.1)
 meant_carries Limits t ws c h s e = other _ _ c refl (alone_some _ _ ws e)
-meant_carries (Write open_page) t ws c h s e =
-    let m = mapped_some (λ ns. line.write open_page (nth_number t 0) ns) (at_most 1024 (each word_of ws)) (line.call c) e in other _ _ c
+meant_carries (Write side) t ws c h s e =
+    let m = mapped_some (λ ns. line.write (is_open side) (nth_number t 0) ns) (at_most 1024 (each word_of ws)) (line.call c) e in other _ _ c
     refl m.2
-meant_carries (Print open_page) t ws c h s e = other _ _ c refl (alone_some _ _ ws e)
+meant_carries (Print side) t ws c h s e = other _ _ c refl (alone_some _ _ ws e)
 
 as_carries : (f : Form) (ws : List (List ℕ)) (c : model.Call) → Carries f.kind → as_form f ws ≡ Some (line.call c) → Carried c
 unfolding as_form
@@ -336,6 +337,6 @@ said_back text (lines.Call n) bytes page s = λ c e.
     ap read_call s.2.front ∙ calls_back s.0 (line_carries text s.0 s.1) ∙ same_call s.0 c (same_some s.1 e)
 said_back text lines.Skip bytes page s = tt
 said_back text (lines.Limits p q) bytes page s = tt
-said_back text (lines.Write b p n) bytes page s = tt
-said_back text (lines.Print b p) bytes page s = tt
+said_back text (lines.Write p n) bytes page s = tt
+said_back text (lines.Print p) bytes page s = tt
 said_back text lines.Unreadable bytes page s = tt

@@ -3,6 +3,7 @@ use Rattle.std.proofs.Common.{◌≡◌, ℕ, ◌≤◌, true, false, List, ◌+
 use Rattle.std.proofs.lemmas.List.{take-append-le}
 use Rattle.std.specs.Option.{unwrap_or}
 use Rattle.script.specs.Words.{words}
+use Rattle.script.specs.Pages.{is_open}
 use Rattle.script.specs.Forms.{forms}
 use Rattle.script.specs.Lines.{first_form, skipped, line_of}
 use Rattle.script.specs.Lines as line
@@ -44,10 +45,10 @@ said_front : (o : Option line.Line) (l : Line) (bytes page more others : List �
 said_front o Skip bytes page more others long s = s
 said_front o (Limits c p) bytes page more others long s = s
 said_front o (Call n) bytes page more others long s = (s.0, s.1, stands_front s.0 n bytes more s.2)
-said_front o (Write b p n) bytes page more others long s =
+said_front o (Write p n) bytes page more others long s =
     let front = take-append-le n page others (omega (arith, s.1)) in
-    (s.0 ∙ ap (λ ws. Some (line.write b p ws)) (sym front), s.1)
-said_front o (Print b p) bytes page more others long s = s
+    (s.0 ∙ ap (λ ws. Some (line.write (is_open p.side) p.number ws)) (sym front), s.1)
+said_front o (Print p) bytes page more others long s = s
 said_front o Unreadable bytes page more others long s = s
 
 pub line_said : (text : List ℕ) (r : Option Line) (l : Line) (bytes page more others : List ℕ) → skipped (words text) ≡ false →

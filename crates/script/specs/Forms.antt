@@ -1,6 +1,7 @@
 -- The forms of lines, and what a line of each is: `#` stands for a number, `@` for a place, any other word for itself.
-use Rattle.std.specs.Prelude.{ℕ, true, false, List, [], ◌∷◌, codes}
+use Rattle.std.specs.Prelude.{ℕ, List, [], ◌∷◌, codes}
 use Rattle.calls.specs.declared.kind.Kind.TheVariants as calls
+use Rattle.script.specs.declared.page.Side.TheVariants.{Open, Closed}
 use Rattle.script.specs.declared.forms.Kind.{Kind}
 use Rattle.script.specs.declared.forms.Kind.TheVariants.{Call, HoldFrom, Interrupt, Limits, Write, Print}
 use Rattle.script.specs.declared.forms.Form as code
@@ -42,8 +43,8 @@ forms =
     ∷ (form (Call calls.Who) (codes "who")
     ∷ (form (Call calls.Draw) (codes "draw #")
     ∷ (form Limits (codes "limits # #")
-    ∷ (form (Write true) (codes "write open #")
-    ∷ (form (Write false) (codes "write closed #")
-    ∷ (form (Print true) (codes "print open #")
-    ∷ (form (Print false) (codes "print closed #")
+    ∷ (form (Write Open) (codes "write open #")
+    ∷ (form (Write Closed) (codes "write closed #")
+    ∷ (form (Print Open) (codes "print open #")
+    ∷ (form (Print Closed) (codes "print closed #")
     ∷ [])))))))))))))))))))))))))

@@ -1,6 +1,7 @@
 pub mod Words
 pub mod Numerals
 pub mod Taking
+pub mod Pages
 pub mod Forms
 pub mod Fitting
 pub mod Lines

@@ -9,6 +9,7 @@ use Rattle.calls.specs.Table.{table}
 use Rattle.script.specs.Words.{words}
 use Rattle.script.specs.Numerals.{number_of}
 use Rattle.script.specs.Taking.{and_then}
+use Rattle.script.specs.Pages.{is_open}
 use Rattle.script.specs.Forms.{Form, forms}
 use Rattle.script.specs.Fitting.{nothing_taken, fit}
 use Rattle.script.specs.declared.forms.Kind.{Kind}
@@ -77,8 +78,8 @@ meant (Call k) t ws = alone (call (call_with (kind_number k) (taken_body t [])))
 meant HoldFrom t ws = alone (call (call_with 4 (taken_body t (nth_number t 2 ∷ [])))) ws
 meant Interrupt t ws = option_map (λ ns. call (model.by_cell (model.interrupt ns))) (registers ws)
 meant Limits t ws = alone (limits (nth_number t 0) (nth_number t 1)) ws
-meant (Write open_page) t ws = option_map (λ ns. write open_page (nth_number t 0) ns) (page_words ws)
-meant (Print open_page) t ws = alone (print open_page (nth_number t 0)) ws
+meant (Write side) t ws = option_map (λ ns. write (is_open side) (nth_number t 0) ns) (page_words ws)
+meant (Print side) t ws = alone (print (is_open side) (nth_number t 0)) ws
 
 -- a line as one form has it
 unfoldable pub as_form : Form → List (List ℕ) → Option Line

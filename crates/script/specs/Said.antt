@@ -7,6 +7,7 @@ use Rattle.fields.specs.Tables.{find}
 use Rattle.fields.specs.Steps.{Wrote}
 use Rattle.calls.specs.Kinds.{kind_number}
 use Rattle.calls.specs.Table.{table, carried, write_call, read_call}
+use Rattle.script.specs.Pages.{is_open}
 use Rattle.script.specs.Lines as line
 use Rattle.script.specs.Lines.{call_with}
 use Rattle.script.specs.declared.forms.Kind.{Kind}
@@ -24,8 +25,8 @@ abbrev pub Said : Option line.Line → Line → List ℕ → List ℕ → Type 0
 Said o Skip bytes words = o ≡ Some line.skip
 Said o (Limits closed_pages open_pages) bytes words = o ≡ Some (line.limits closed_pages open_pages)
 Said o (Call n) bytes words = (c : model.Call) × (o ≡ Some (line.call c)) × Stands c n bytes
-Said o (Write open_page page n) bytes words = (o ≡ Some (line.write open_page page (take n words))) × (n ≤ 1024)
-Said o (Print open_page page) bytes words = o ≡ Some (line.print open_page page)
+Said o (Write page n) bytes words = (o ≡ Some (line.write (is_open page.side) page.number (take n words))) × (n ≤ 1024)
+Said o (Print page) bytes words = o ≡ Some (line.print (is_open page.side) page.number)
 Said o Unreadable bytes words = o ≡ None
 
 -- The same of what may be no line of a form: where there is one, it can be read.
@@ -38,8 +39,8 @@ abbrev pub Back : Option line.Line → Line → List ℕ → Type 0
 Back o (Call n) bytes = (c : model.Call) → o ≡ Some (line.call c) → read_call (take n bytes) ≡ c
 Back o Skip bytes = Unit {0}
 Back o (Limits closed_pages open_pages) bytes = Unit {0}
-Back o (Write open_page page n) bytes = Unit {0}
-Back o (Print open_page page) bytes = Unit {0}
+Back o (Write page n) bytes = Unit {0}
+Back o (Print page) bytes = Unit {0}
 Back o Unreadable bytes = Unit {0}
 
 -- a call that a number and fields make, and that its bytes can carry in the room that there is
@@ -54,8 +55,8 @@ Sound (kind.Call k) = (f : Body) → f.list ≡ [] → Callable (kind_number k) 
 Sound kind.HoldFrom = Unit {0}
 Sound kind.Interrupt = Unit {0}
 Sound kind.Limits = Unit {0}
-Sound (kind.Write open_page) = Unit {0}
-Sound (kind.Print open_page) = Unit {0}
+Sound (kind.Write side) = Unit {0}
+Sound (kind.Print side) = Unit {0}
 
 -- numbers that were written from the third byte on, and how many
 abbrev pub Listed : Option (List ℕ) → Option ℕ → List ℕ → List ℕ → Type 0

@@ -1,5 +1,6 @@
 // The forms of lines.
 
+use crate::page::Side;
 use calls::Kind as CallKind;
 
 // What a line of a form is: most are calls, of a kind, with nothing behind the form's words.
@@ -9,8 +10,8 @@ pub enum Kind {
     HoldFrom,
     Interrupt,
     Limits,
-    Write { open: bool },
-    Print { open: bool },
+    Write(Side),
+    Print(Side),
 }
 
 // A form: what a line of it is, and its text, in which `#` stands for a number, `@` for a place, and any other word for itself.
@@ -41,8 +42,8 @@ pub static FORMS: [Form; 26] = [
     Form(Kind::Call(CallKind::Who), b"who"),
     Form(Kind::Call(CallKind::Draw), b"draw #"),
     Form(Kind::Limits, b"limits # #"),
-    Form(Kind::Write { open: true }, b"write open #"),
-    Form(Kind::Write { open: false }, b"write closed #"),
-    Form(Kind::Print { open: true }, b"print open #"),
-    Form(Kind::Print { open: false }, b"print closed #"),
+    Form(Kind::Write(Side::Open), b"write open #"),
+    Form(Kind::Write(Side::Closed), b"write closed #"),
+    Form(Kind::Print(Side::Open), b"print open #"),
+    Form(Kind::Print(Side::Closed), b"print closed #"),
 ];

@@ -7,6 +7,7 @@ mod forms;
 mod line;
 mod lists;
 mod numerals;
+mod page;
 mod reading;
 mod showing;
 mod taking;
@@ -15,6 +16,7 @@ mod words;
 ghost use Rattle.script.specs.Promises.{LinesStand};
 
 pub use line::Line;
+pub use page::{Page, Side};
 pub use reading::read;
 pub use showing::{show_answer, show_page};
 

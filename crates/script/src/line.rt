@@ -1,5 +1,7 @@
 // What a line is.
 
+use crate::page::Page;
+
 // The bytes of a call, and the words of a page that is written, stand at the front of the slices that were lent for them, so many: to read a
 // line allocates nothing.
 #[derive(Clone, Copy)]
@@ -7,7 +9,7 @@ pub enum Line {
     Skip,
     Limits { closed: u64, open: u64 },
     Call { length: usize },
-    Write { open: bool, page: u64, count: usize },
-    Print { open: bool, page: u64 },
+    Write { page: Page, count: usize },
+    Print { page: Page },
     Unreadable,
 }

@@ -12,7 +12,7 @@ use crate::words::Words;
 use calls::Kind;
 
 // The words of a page.
-pub type Page = [u32; 1024];
+pub type PageWords = [u32; 1024];
 
 fn put_number(bytes: &mut [u8], at: usize, number: u64)
     requires { at + 8 ≤ length bytes.old }
@@ -54,7 +54,7 @@ fn word(text: &[u8]) -> Option<u32>
 }
 
 // The words of a page, and how many there are: the count is returned here too.
-pub fn put_words(words: Words<'_>, page: &mut Page) -> Option<usize>
+pub fn put_words(words: Words<'_>, page: &mut PageWords) -> Option<usize>
     ensures { Filled (page_words (words_left words.entry)) result page.new }
 {
     let mut count = 0;

@@ -14,7 +14,8 @@ use crate::calling::{CallBytes, put_call};
 use crate::fitting::{Taken, fit};
 use crate::forms::{FORMS, Form, Kind};
 use crate::line::Line;
-use crate::lists::{Page, put_interrupt, put_words};
+use crate::lists::{PageWords, put_interrupt, put_words};
+use crate::page::{Page, Side};
 use crate::words::Words;
 use calls::Kind as CallKind;
 use fields::Numbers;
@@ -68,30 +69,34 @@ fn limits(taken: Taken, rest: Words<'_>) -> Option<Line>
     })
 }
 
-fn write(open: bool, taken: Taken, rest: Words<'_>, page: &mut Page) -> Option<Line>
-    ensures { (bs : List ℕ) → Tried (meant (Kind.Write «open») taken (words_left rest.entry)) result bs page.new }
+fn write(side: Side, taken: Taken, rest: Words<'_>, page: &mut PageWords) -> Option<Line>
+    ensures { (bs : List ℕ) → Tried (meant (Kind.Write side) taken (words_left rest.entry)) result bs page.new }
 {
     let count = put_words(rest, page)?;
     Some(Line::Write {
-        open,
-        page: taken.numbers[0],
+        page: Page {
+            side,
+            number: taken.numbers[0],
+        },
         count,
     })
 }
 
-fn print(open: bool, taken: Taken, rest: Words<'_>) -> Option<Line>
-    ensures { (bs ws : List ℕ) → Tried (meant (Kind.Print «open») taken (words_left rest.entry)) result bs ws }
+fn print(side: Side, taken: Taken, rest: Words<'_>) -> Option<Line>
+    ensures { (bs ws : List ℕ) → Tried (meant (Kind.Print side) taken (words_left rest.entry)) result bs ws }
 {
     ended(rest)?;
     Some(Line::Print {
-        open,
-        page: taken.numbers[0],
+        page: Page {
+            side,
+            number: taken.numbers[0],
+        },
     })
 }
 
 // A line of one form.
 #[tactic(auto, unfolding(crate::specs::Lines::as_form))]
-fn read_as(form: &Form, text: &[u8], bytes: &mut CallBytes, page: &mut Page) -> Option<Line>
+fn read_as(form: &Form, text: &[u8], bytes: &mut CallBytes, page: &mut PageWords) -> Option<Line>
     requires { Sound form.now.0 }
     ensures { Tried (as_form (form_of form.now) (words_of text.now)) result bytes.new page.new }
 {
@@ -102,13 +107,13 @@ fn read_as(form: &Form, text: &[u8], bytes: &mut CallBytes, page: &mut Page) -> 
         Kind::HoldFrom => hold_from(taken, rest, bytes),
         Kind::Interrupt => interrupt(rest, bytes),
         Kind::Limits => limits(taken, rest),
-        Kind::Write { open } => write(open, taken, rest, page),
-        Kind::Print { open } => print(open, taken, rest),
+        Kind::Write(side) => write(side, taken, rest, page),
+        Kind::Print(side) => print(side, taken, rest),
     }
 }
 
 // A line of the first of these forms that it is of.
-fn read_by(forms: &[Form], text: &[u8], bytes: &mut CallBytes, page: &mut Page) -> Option<Line>
+fn read_by(forms: &[Form], text: &[u8], bytes: &mut CallBytes, page: &mut PageWords) -> Option<Line>
     requires { AllByRecursion (λ f. Sound f.0) forms.now }
     ensures { Tried (first_form (map form_of forms.now) (words_of text.now)) result bytes.new page.new }
 {

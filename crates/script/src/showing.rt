@@ -2,8 +2,10 @@
 ghost use Rattle.std.specs.Prelude.{◌≡◌, ◌≤◌, length, take, Some, string_bytes as bytes_of};
 ghost use Rattle.fields.specs.Shapes.{numbers_of};
 ghost use Rattle.answers.specs.Meaning.{answer_of};
+ghost use Rattle.script.specs.Pages.{is_open};
 ghost use Rattle.script.specs.Shown.{Adds, spaced, with_numbers, answer_text, trimmed, page_text};
 
+use crate::page::Page;
 use answers::Answer;
 use fields::Numbers;
 use std::fmt;
@@ -90,18 +92,16 @@ fn used(words: &[u32]) -> usize
 // A page's line, without its end.
 #[derive(Clone, Copy)]
 struct PageLine<'a> {
-    open: bool,
-    page: u64,
+    page: Page,
     words: &'a [u32],
 }
 
 impl fmt::Display for PageLine<'_> {
-    ghost output = { λ line. Some (page_text line.«open» line.page line.words.now) };
+    ghost output = { λ line. Some (page_text (is_open line.page.side) line.page.number line.words.now) };
 
     fn fmt<W: fmt::Write>(&self, f: &mut fmt::Formatter<W>) -> fmt::Result {
-        let name = if self.open { "open" } else { "closed" };
         let page = self.page;
-        write!(f, "{name} {page}:")?;
+        write!(f, "{page}:")?;
         for word in &self.words[..used(self.words)] {
             write!(f, " {word}")?;
         }
@@ -110,10 +110,10 @@ impl fmt::Display for PageLine<'_> {
 }
 
 // Adds a page's line, without its end, to a text.
-pub fn show_page(open: bool, page: u64, words: &[u32], out: &mut String) -> fmt::Result
-    ensures { Adds result (bytes_of out.old) (bytes_of out.new) (page_text «open» page words.now) }
+pub fn show_page(page: Page, words: &[u32], out: &mut String) -> fmt::Result
+    ensures { Adds result (bytes_of out.old) (bytes_of out.new) (page_text (is_open page.side) page.number words.now) }
 {
-    let line = PageLine { open, page, words };
+    let line = PageLine { page, words };
     write!(out, "{line}")?;
     Ok(())
 }
