@@ -1,6 +1,5 @@
 -- Bytes written one after another.
-use Rattle.std.proofs.Common.{◌≡◌, ℕ, ◌+◌, ◌-◌, ◌*◌, ◌/◌, ◌<◌, ◌≤◌, Bool, true, false, List, [], ◌∷◌, ◌++◌, length, get_or, take, drop, set, sym, refl, ap, ◌∙◌, append_assoc, add-zero, add-one, arith, length-append, length-drop, length-set, length-take}
-use lib.Seq.{set_split}
+use Rattle.std.proofs.Common.{◌≡◌, ℕ, ◌+◌, ◌-◌, ◌*◌, ◌/◌, ◌<◌, ◌≤◌, Bool, true, false, List, [], ◌∷◌, ◌++◌, length, get_or, take, drop, sym, refl, ap, ◌∙◌, append_assoc, add-zero, arith, length-append, length-drop, length-take}
 use borrow.Rule.Slice.PartMut.{put_mid}
 use Rattle.std.proofs.lemmas.List.{drop-drop, drop_at, take_at, take-append-drop, take_more}
 use Rattle.std.proofs.ByRecursion.{All-from_get_or}
@@ -11,9 +10,6 @@ use Rattle.fields.specs.declared.values.Shape.{Shape}
 use Rattle.fields.specs.Steps.{Wrote, Put, Room}
 use Rattle.fields.specs.declared.writing.Writer.{Writer}
 use Rattle.fields.proofs.Pieces.{length_numbers_bytes, length_numbers_in, numbers_front}
-
-pub wrote_byte : (a : List ℕ) (at x : ℕ) → at < length a → Wrote a (set a at x) at (x ∷ []) (at + 1)
-wrote_byte a at x h = record { there = set_split a at x h ∙ simp add-one; ends = refl; long = length-set a at x }
 
 pub wrote_none : (a : List ℕ) (at : ℕ) → Wrote a a at [] at
 wrote_none a at = record { there = rw add-zero (sym (take-append-drop at a)); ends = sym (add-zero at); long = refl }

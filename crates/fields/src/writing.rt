@@ -43,7 +43,8 @@ impl Writer<'_> {
         }
     }
 
-    // Words as numbers. Made into numbers by `map` first, for `numbers`, they got no proof: how long an array in a variant is stands in no goal.
+    // Words as numbers. Made into numbers by `map` first, for `numbers`, they got no proof: how long an array in a variant is stands in no
+    // goal.
     fn words(&mut self, words: &[u32])
         requires { Room self.old (8 * length words.now) }
         ensures { Put self.old self.new (numbers_bytes words.now) }
