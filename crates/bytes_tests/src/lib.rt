@@ -280,22 +280,16 @@ mod tests {
     #[test]
     fn through_the_monitor(rt: HostRuntime) -> Result<(), Fail> {
         let limits = Limits { closed: 6, open: 3 };
-        let Ok(mut session) = session::open::<Stage>(rt.alloc(), limits) else {
-            return Err(Fail::new("not opened"));
-        };
+        let mut session = session::open::<Stage>(rt.alloc(), limits)?;
         let mut expected = PAGES;
         for (_, bytes) in CALLS {
             let mut told = [0u8; 17];
-            let Ok(reply) = session.call(bytes, &mut told) else {
-                return Err(Fail::new("not answered"));
-            };
+            let reply = session.call(bytes, &mut told)?;
             assert!(rt; told.get(..reply.told) == Some(expected));
             expected = REFUSED;
         }
         let mut told = [0u8; 17];
-        let Ok(reply) = session.call(&[7, 1, 2], &mut told) else {
-            return Err(Fail::new("not answered"));
-        };
+        let reply = session.call(&[7, 1, 2], &mut told)?;
         let expected: &[u8] = &[0, 1, 0, 0, 0, 0, 0, 0, 0, 3, 0, 0, 0, 0, 0, 0, 0];
         assert!(rt; told.get(..reply.told) == Some(expected));
         let mut short = [0u8; 16];

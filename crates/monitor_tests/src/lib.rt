@@ -404,9 +404,7 @@ mod tests {
             let mut bytes = [0u8; 200];
             let count = calls::write(call, &mut bytes).map_err(|_error| "not written")?;
             let mut out = [0u8; 17];
-            let Ok(reply) = session.call(bytes.get(..count).ok_or("too long")?, &mut out) else {
-                return Err(Fail::new("not answered"));
-            };
+            let reply = session.call(bytes.get(..count).ok_or("too long")?, &mut out)?;
             same(&rt, reply.answer, answer)?;
             let told = out.get(..reply.told).ok_or("too long")?;
             let heard = answers::read(told).map_err(|_error| "not read")?;
@@ -442,9 +440,7 @@ mod tests {
     fn no_room(rt: HostRuntime) -> Result<(), Fail> {
         let mut session = opened::<Whole>(rt.alloc())?;
         let mut out = [0u8; 17];
-        let Ok(reply) = session.call(&[7, 1, 2], &mut out) else {
-            return Err(Fail::new("not answered"));
-        };
+        let reply = session.call(&[7, 1, 2], &mut out)?;
         let expected: &[u8] = &[0, 1, 0, 0, 0, 0, 0, 0, 0, 3, 0, 0, 0, 0, 0, 0, 0];
         assert!(rt; out.get(..reply.told) == Some(expected));
         let mut short = [0u8; 16];
