@@ -1,7 +1,6 @@
 -- Bytes can carry the calls that lines are.
 use Rattle.std.proofs.Common.{◌≡◌, ℕ, zero, suc, ◌^◌, ◌<◌, ◌≤◌, Bool, true, false, cond, ltb, leb, ◌⊎◌, List, [], ◌∷◌, length, get_or, Some, None, codes, Option, sym, refl, ap, ◌∙◌, subst, inl, inr, ⊎_elim, arith, le-leb, leb-true}
 use Rattle.std.specs.Option.{option_map}
-use Rattle.std.specs.List.{AllByRecursion}
 use Rattle.std.specs.Str.{bytes_eq}
 use Rattle.std.proofs.ByRecursion.{All-set}
 use Rattle.std.proofs.lemmas.Bool.{cases_Bool}
@@ -9,6 +8,8 @@ use Rattle.model.specs.Calls as model
 use Rattle.fields.specs.Bytes.{Wide}
 use Rattle.fields.specs.declared.values.Place.{Place}
 use Rattle.calls.specs.Kinds.{kind_number}
+use Rattle.calls.specs.declared.kind.Kind.{Kind as CallKind}
+use Rattle.calls.specs.declared.kind.Kind.TheVariants as kinds
 use Rattle.calls.specs.Table.{carried, Carried, read_call}
 use Rattle.calls.proofs.Stand.{calls_back}
 use Rattle.script.specs.Words.{words}
@@ -117,15 +118,6 @@ at_small [] i h = omega arith
 at_small (n ∷ ns) zero h = h.0
 at_small (n ∷ ns) (suc i) h = at_small ns i h.1
 
--- a form of a call is of one that bytes carry
-abbrev Carries : Kind → Type 0
-Carries (Call n) = (t : Taken) → Small t → Carried (call_with (kind_number n) (taken_body t []))
-Carries HoldFrom = Unit {0}
-Carries Interrupt = Unit {0}
-Carries Limits = Unit {0}
-Carries (Write side) = Unit {0}
-Carries (Print side) = Unit {0}
-
 none : 0 < 2 ^ 64
 none = omega arith
 
@@ -155,87 +147,29 @@ module _ (t : Taken) (s : Small t) where
   place_there : Wide (t.place.table ∷ (t.place.slot ∷ []))
   place_there = (s.table, (s.slot, tt))
 
-forms_carry : AllByRecursion (λ f. Carries f.kind) forms
+-- a call of a kind, with no list
+kind_carries : (k : CallKind) (t : Taken) → Small t → Carried (call_with (kind_number k) (taken_body t []))
 unfolding call_with carried
-forms_carry = (
-  λ t s. record { short = refl; numbers = zeros; place = nowhere_small; list = tt },
-  (
-    λ t s. record { short = refl; numbers = two t s; place = nowhere_small; list = tt },
-    (
-      λ t s. record { short = refl; numbers = three t s; place = nowhere_small; list = tt },
-      (
-        λ t s. record { short = refl; numbers = three t s; place = nowhere_small; list = tt },
-        (
-          λ t s. record { short = refl; numbers = two t s; place = place_there t s; list = tt },
-          (
-            tt,
-            (
-              λ t s. record { short = refl; numbers = two t s; place = nowhere_small; list = tt },
-              (
-                λ t s. record { short = refl; numbers = two t s; place = place_there t s; list = tt },
-                (
-                  λ t s. record { short = refl; numbers = one t s; place = nowhere_small; list = tt },
-                  (
-                    λ t s. record { short = refl; numbers = one t s; place = nowhere_small; list = tt },
-                    (
-                      λ t s. record { short = refl; numbers = one t s; place = nowhere_small; list = tt },
-                      (
-                        λ t s. record { short = refl; numbers = four t s; place = nowhere_small; list = tt },
-                        (
-                          λ t s. record { short = refl; numbers = one t s; place = nowhere_small; list = tt },
-                          (
-                            λ t s. record { short = refl; numbers = one t s; place = nowhere_small; list = tt },
-                            (
-                              tt,
-                              (
-                                λ t s. record { short = refl; numbers = one t s; place = nowhere_small; list = tt },
-                                (
-                                  λ t s. record { short = refl; numbers = one t s; place = place_there t s; list = tt },
-                                  (
-                                    λ t s. record { short = refl; numbers = one t s; place = place_there t s; list = tt },
-                                    (
-                                      λ t s. record { short = refl; numbers = two t s; place = nowhere_small; list = tt },
-                                      (
-                                        λ t s. record { short = refl; numbers = zeros; place = nowhere_small; list = tt },
-                                        (
-                                          λ t s. record { short = refl; numbers = one t s; place = nowhere_small; list = tt },
-                                          (
-                                            tt,
-                                            (
-                                              tt,
-                                              (
-                                                tt,
-                                                (
-                                                  tt,
-                                                  (
-                                                    tt,
-                                                    tt,
-                                                  ),
-                                                ),
-                                              ),
-                                            ),
-                                          ),
-                                        ),
-                                      ),
-                                    ),
-                                  ),
-                                ),
-                              ),
-                            ),
-                          ),
-                        ),
-                      ),
-                    ),
-                  ),
-                ),
-              ),
-            ),
-          ),
-        ),
-      ),
-    ),
-  ),
-)
+kind_carries kinds.HowMany t s = record { short = refl; numbers = zeros; place = nowhere_small; list = tt }
+kind_carries kinds.NewCell t s = record { short = refl; numbers = two t s; place = nowhere_small; list = tt }
+kind_carries kinds.NewThread t s = record { short = refl; numbers = three t s; place = nowhere_small; list = tt }
+kind_carries kinds.NewTable t s = record { short = refl; numbers = three t s; place = nowhere_small; list = tt }
+kind_carries kinds.Hold t s = record { short = refl; numbers = two t s; place = place_there t s; list = tt }
+kind_carries kinds.Give t s = record { short = refl; numbers = two t s; place = nowhere_small; list = tt }
+kind_carries kinds.Show t s = record { short = refl; numbers = two t s; place = place_there t s; list = tt }
+kind_carries kinds.Remove t s = record { short = refl; numbers = one t s; place = nowhere_small; list = tt }
+kind_carries kinds.Seal t s = record { short = refl; numbers = one t s; place = nowhere_small; list = tt }
+kind_carries kinds.Stop t s = record { short = refl; numbers = one t s; place = nowhere_small; list = tt }
+kind_carries kinds.Enter t s = record { short = refl; numbers = four t s; place = nowhere_small; list = tt }
+kind_carries kinds.Resume t s = record { short = refl; numbers = one t s; place = nowhere_small; list = tt }
+kind_carries kinds.Leave t s = record { short = refl; numbers = one t s; place = nowhere_small; list = tt }
+kind_carries kinds.Interrupt t s = record { short = refl; numbers = zeros; place = nowhere_small; list = tt }
+kind_carries kinds.Fault t s = record { short = refl; numbers = one t s; place = nowhere_small; list = tt }
+kind_carries kinds.Grow t s = record { short = refl; numbers = one t s; place = place_there t s; list = tt }
+kind_carries kinds.Shrink t s = record { short = refl; numbers = one t s; place = place_there t s; list = tt }
+kind_carries kinds.Extend t s = record { short = refl; numbers = two t s; place = nowhere_small; list = tt }
+kind_carries kinds.Who t s = record { short = refl; numbers = zeros; place = nowhere_small; list = tt }
+kind_carries kinds.Draw t s = record { short = refl; numbers = one t s; place = nowhere_small; list = tt }
 
 hold_carries : (t : Taken) → Small t → Carried (call_with 4 (taken_body t (nth_number t 2 ∷ [])))
 unfolding call_with carried
@@ -287,37 +221,36 @@ other P l c f e = let b : false ≡ true = sym f ∙ ap is_call e in let z : ◌
 same_call : (c d : model.Call) → line.call c ≡ line.call d → c ≡ d
 same_call c d e = cc
 
-meant_carries : (k : Kind) (t : Taken) (ws : List (List ℕ)) (c : model.Call) → Carries k → Small t → meant k t ws ≡ Some (line.call c) →
+meant_carries : (k : Kind) (t : Taken) (ws : List (List ℕ)) (c : model.Call) → Small t → meant k t ws ≡ Some (line.call c) →
     Carried c
-meant_carries (Call n) t ws c h s e = subst Carried (same_call _ c (alone_some _ _ ws e)) (h t s)
-meant_carries HoldFrom t ws c h s e = subst Carried (same_call _ c (alone_some _ _ ws e)) (hold_carries t s)
-meant_carries Interrupt t ws c h s e =
+meant_carries (Call n) t ws c s e = subst Carried (same_call _ c (alone_some _ _ ws e)) (kind_carries n t s)
+meant_carries HoldFrom t ws c s e = subst Carried (same_call _ c (alone_some _ _ ws e)) (hold_carries t s)
+meant_carries Interrupt t ws c s e =
     let m = mapped_some (λ ns. line.call (model.by_cell (model.interrupt ns))) (at_most 255 (each number_of ws)) (line.call c) e in
     let a = at_most_some 255 (each number_of ws) m.0 m.1 in
     subst Carried (same_call _ c m.2) (interrupt_carries m.0 (each_small ws m.0 a.0) a.1)
-meant_carries Limits t ws c h s e = other _ _ c refl (alone_some _ _ ws e)
-meant_carries (Write side) t ws c h s e =
+meant_carries Limits t ws c s e = other _ _ c refl (alone_some _ _ ws e)
+meant_carries (Write side) t ws c s e =
     let m = mapped_some (λ ns. line.write (is_open side) (nth_number t 0) ns) (at_most 1024 (each word_of ws)) (line.call c) e in other _ _ c
     refl m.2
-meant_carries (Print side) t ws c h s e = other _ _ c refl (alone_some _ _ ws e)
+meant_carries (Print side) t ws c s e = other _ _ c refl (alone_some _ _ ws e)
 
-as_carries : (f : Form) (ws : List (List ℕ)) (c : model.Call) → Carries f.kind → as_form f ws ≡ Some (line.call c) → Carried c
+as_carries : (f : Form) (ws : List (List ℕ)) (c : model.Call) → as_form f ws ≡ Some (line.call c) → Carried c
 unfolding as_form
-as_carries f ws c h e =
+as_carries f ws c e =
     let a = and_then_some (fit (words f.text) ws nothing_taken) (λ t rest. meant f.kind t rest) (line.call c) e in
     let s = fit_small (words f.text) ws nothing_taken a.0 a.1
     (record { numbers = zeros; table = none; slot = none }) a.2 in
-    meant_carries f.kind a.0 a.1 c h s a.3
+    meant_carries f.kind a.0 a.1 c s a.3
 
 or_else_some : (o p : Option line.Line) (l : line.Line) → or_else o p ≡ Some l → (o ≡ Some l) ⊎ (p ≡ Some l)
 or_else_some (Some m) p l e = inl e
 or_else_some None p l e = inr e
 
-first_carries : (fs : List Form) (ws : List (List ℕ)) (c : model.Call) → AllByRecursion (λ f. Carries f.kind) fs →
-    first_form fs ws ≡ Some (line.call c) → Carried c
-first_carries [] ws c h e = no_some _ (line.call c) e
-first_carries (f ∷ fs) ws c h e =
-    ⊎_elim (λ l. as_carries f ws c h.0 l) (λ r. first_carries fs ws c h.1 r)
+first_carries : (fs : List Form) (ws : List (List ℕ)) (c : model.Call) → first_form fs ws ≡ Some (line.call c) → Carried c
+first_carries [] ws c e = no_some _ (line.call c) e
+first_carries (f ∷ fs) ws c e =
+    ⊎_elim (λ l. as_carries f ws c l) (λ r. first_carries fs ws c r)
     (or_else_some (as_form f ws) (first_form fs ws) (line.call c) e)
 
 same_some : {A : Type 0} {o : Option A} {x y : A} → o ≡ Some x → o ≡ Some y → x ≡ y
@@ -328,7 +261,7 @@ unfolding line_of
 line_carries text c e =
     ⊎_elim
     (λ y. let s : Some line.skip ≡ Some (line.call c) = rw y at e in other _ line.skip c refl (cc))
-    (λ y. first_carries forms (words text) c forms_carry (rw y at e))
+    (λ y. first_carries forms (words text) c (rw y at e))
     (cases_Bool (skipped (words text)))
 
 -- what is said of a line's call, once more

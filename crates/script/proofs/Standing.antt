@@ -1,6 +1,5 @@
 -- Calls that are written stand at the front of the bytes.
 use Rattle.std.proofs.Common.{◌≡◌, ℕ, suc, ◌+◌, ◌*◌, ◌≤◌, Bool, true, false, List, [], ◌∷◌, ◌++◌, length, take, drop, set, Ok, Err, sym, refl, ap, ◌∙◌, subst, arith, lit≤, length-append, length-set}
-use Rattle.std.specs.List.{AllByRecursion}
 use Rattle.std.proofs.lemmas.List.{take_at}
 use Rattle.model.specs.Calls as model
 use Rattle.fields.specs.Bytes.{numbers_bytes}
@@ -11,8 +10,11 @@ use Rattle.fields.specs.declared.values.Unwritten.TheVariants.{TooMany, TooShort
 use Rattle.calls.specs.Table.{calls, carried, write_call}
 use Rattle.fields.specs.Shapes.{Body}
 use Rattle.script.specs.Lines.{call_with}
-use Rattle.script.specs.Forms.{forms}
-use Rattle.script.specs.Said.{Stands, Callable, Sound}
+use Rattle.script.specs.Said.{Stands, Callable}
+use Rattle.model.specs.Calls.{Place as Placed}
+use Rattle.calls.specs.Kinds.{kind_number}
+use Rattle.calls.specs.declared.kind.Kind.{Kind}
+use Rattle.calls.specs.declared.kind.Kind.TheVariants as kinds
 
 pub not_unwritten : (fits : Bool) (bytes was is : List ℕ) (e : Unwritten) → Written fits bytes was is (Err e) → fits ≡ true →
     length bytes ≤ length was → ⊥
@@ -64,84 +66,30 @@ hold_callable f (x ∷ (y ∷ l)) h = absurd (omega arith)
 pub hold_sound : (f : Body) → length f.list ≤ 1 → Callable 4 f
 hold_sound f h = hold_callable f f.list h
 
-pub forms_sound : AllByRecursion (λ f. Sound f.kind) forms
+-- a call of any kind, with no list
+kind_callable : (k : Kind) (ns : List ℕ) (p : Placed) → Callable (kind_number k) (record { numbers = ns; place = p; list = [] })
 unfolding call_with carried write_call calls numbers_bytes
-forms_sound = (
-  λ f e. record { known = refl; short = refl; room = lit≤ tt },
-  (
-    λ f e. record { known = refl; short = refl; room = lit≤ tt },
-    (
-      λ f e. record { known = refl; short = refl; room = lit≤ tt },
-      (
-        λ f e. record { known = refl; short = refl; room = lit≤ tt },
-        (
-          λ f e. hold_sound f (omega (arith, ap length e)),
-          (
-            tt,
-            (
-              λ f e. record { known = refl; short = refl; room = lit≤ tt },
-              (
-                λ f e. record { known = refl; short = refl; room = lit≤ tt },
-                (
-                  λ f e. record { known = refl; short = refl; room = lit≤ tt },
-                  (
-                    λ f e. record { known = refl; short = refl; room = lit≤ tt },
-                    (
-                      λ f e. record { known = refl; short = refl; room = lit≤ tt },
-                      (
-                        λ f e. record { known = refl; short = refl; room = lit≤ tt },
-                        (
-                          λ f e. record { known = refl; short = refl; room = lit≤ tt },
-                          (
-                            λ f e. record { known = refl; short = refl; room = lit≤ tt },
-                            (
-                              tt,
-                              (
-                                λ f e. record { known = refl; short = refl; room = lit≤ tt },
-                                (
-                                  λ f e. record { known = refl; short = refl; room = lit≤ tt },
-                                  (
-                                    λ f e. record { known = refl; short = refl; room = lit≤ tt },
-                                    (
-                                      λ f e. record { known = refl; short = refl; room = lit≤ tt },
-                                      (
-                                        λ f e. record { known = refl; short = refl; room = lit≤ tt },
-                                        (
-                                          λ f e. record { known = refl; short = refl; room = lit≤ tt },
-                                          (
-                                            tt,
-                                            (
-                                              tt,
-                                              (
-                                                tt,
-                                                (
-                                                  tt,
-                                                  (
-                                                    tt,
-                                                    tt,
-                                                  ),
-                                                ),
-                                              ),
-                                            ),
-                                          ),
-                                        ),
-                                      ),
-                                    ),
-                                  ),
-                                ),
-                              ),
-                            ),
-                          ),
-                        ),
-                      ),
-                    ),
-                  ),
-                ),
-              ),
-            ),
-          ),
-        ),
-      ),
-    ),
-  ),
-)
+kind_callable kinds.HowMany ns p = record { known = refl; short = refl; room = lit≤ tt }
+kind_callable kinds.NewCell ns p = record { known = refl; short = refl; room = lit≤ tt }
+kind_callable kinds.NewThread ns p = record { known = refl; short = refl; room = lit≤ tt }
+kind_callable kinds.NewTable ns p = record { known = refl; short = refl; room = lit≤ tt }
+kind_callable kinds.Hold ns p = record { known = refl; short = refl; room = lit≤ tt }
+kind_callable kinds.Give ns p = record { known = refl; short = refl; room = lit≤ tt }
+kind_callable kinds.Show ns p = record { known = refl; short = refl; room = lit≤ tt }
+kind_callable kinds.Remove ns p = record { known = refl; short = refl; room = lit≤ tt }
+kind_callable kinds.Seal ns p = record { known = refl; short = refl; room = lit≤ tt }
+kind_callable kinds.Stop ns p = record { known = refl; short = refl; room = lit≤ tt }
+kind_callable kinds.Enter ns p = record { known = refl; short = refl; room = lit≤ tt }
+kind_callable kinds.Resume ns p = record { known = refl; short = refl; room = lit≤ tt }
+kind_callable kinds.Leave ns p = record { known = refl; short = refl; room = lit≤ tt }
+kind_callable kinds.Interrupt ns p = record { known = refl; short = refl; room = lit≤ tt }
+kind_callable kinds.Fault ns p = record { known = refl; short = refl; room = lit≤ tt }
+kind_callable kinds.Grow ns p = record { known = refl; short = refl; room = lit≤ tt }
+kind_callable kinds.Shrink ns p = record { known = refl; short = refl; room = lit≤ tt }
+kind_callable kinds.Extend ns p = record { known = refl; short = refl; room = lit≤ tt }
+kind_callable kinds.Who ns p = record { known = refl; short = refl; room = lit≤ tt }
+kind_callable kinds.Draw ns p = record { known = refl; short = refl; room = lit≤ tt }
+
+pub kind_sound : (k : Kind) (f : Body) → f.list ≡ [] → Callable (kind_number k) f
+kind_sound k f e = let P : List ℕ → Type 0 = λ l. Callable (kind_number k) (record { numbers = f.numbers; place = f.place; list = l }) in
+    subst P (sym e) (kind_callable k f.numbers f.place)

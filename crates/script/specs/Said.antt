@@ -1,17 +1,14 @@
 -- What the code says of a line.
-use Rattle.std.specs.Prelude.{◌≡◌, ℕ, ◌+◌, ◌*◌, ◌≤◌, true, List, [], length, take, is_some, Some, None, Option}
+use Rattle.std.specs.Prelude.{◌≡◌, ℕ, ◌+◌, ◌*◌, ◌≤◌, true, List, length, take, is_some, Some, None, Option}
 use Rattle.model.specs.Calls as model
 use Rattle.fields.specs.Bytes.{numbers_bytes}
 use Rattle.fields.specs.Shapes.{Body}
 use Rattle.fields.specs.Tables.{find}
 use Rattle.fields.specs.Steps.{Wrote}
-use Rattle.calls.specs.Kinds.{kind_number}
 use Rattle.calls.specs.Table.{table, carried, write_call, read_call}
 use Rattle.script.specs.Pages.{is_open}
 use Rattle.script.specs.Lines as line
 use Rattle.script.specs.Lines.{call_with}
-use Rattle.script.specs.declared.forms.Kind.{Kind}
-use Rattle.script.specs.declared.forms.Kind.TheVariants as kind
 use Rattle.script.specs.declared.line.Line.{Line}
 use Rattle.script.specs.declared.line.Line.TheVariants.{Skip, Limits, Call, Write, Print, Unreadable}
 
@@ -48,15 +45,6 @@ pub record Callable (n : ℕ) (f : Body) : Type 0 where
   pub known : is_some (find n table) ≡ true
   pub short : carried (call_with n f) ≡ true
   pub room : length (write_call (call_with n f)) ≤ 2042
-
--- a form of a call is of one that can be made of what forms take
-abbrev pub Sound : Kind → Type 0
-Sound (kind.Call k) = (f : Body) → f.list ≡ [] → Callable (kind_number k) f
-Sound kind.HoldFrom = Unit {0}
-Sound kind.Interrupt = Unit {0}
-Sound kind.Limits = Unit {0}
-Sound (kind.Write side) = Unit {0}
-Sound (kind.Print side) = Unit {0}
 
 -- numbers that were written from the third byte on, and how many
 abbrev pub Listed : Option (List ℕ) → Option ℕ → List ℕ → List ℕ → Type 0

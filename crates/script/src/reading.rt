@@ -1,14 +1,12 @@
 // Lines, by their forms.
 ghost use Rattle.std.specs.Prelude.{◌≡◌, ℕ, ◌≤◌, List, [], length, map};
 ghost use Rattle.std.specs.Option.{option_map};
-ghost use Rattle.std.specs.List.{AllByRecursion};
-ghost use Rattle.calls.specs.Kinds.{kind_number};
 ghost use Rattle.script.specs.Words.{words as words_of, words_left};
 ghost use Rattle.script.specs.Forms.{form_of};
 ghost use Rattle.script.specs.Lines as line;
 ghost use Rattle.script.specs.Lines.{taken_body, alone, meant, as_form, first_form, skipped, line_of};
 ghost use Rattle.script.specs.Fitting.{nothing_taken};
-ghost use Rattle.script.specs.Said.{Said, Back, Tried, Callable, Sound};
+ghost use Rattle.script.specs.Said.{Said, Back, Tried};
 
 use crate::calling::{CallBytes, put_call};
 use crate::fitting::{Taken, fit};
@@ -31,7 +29,6 @@ fn ended(mut rest: Words<'_>) -> Option<()>
 }
 
 fn call(kind: CallKind, taken: Taken, rest: Words<'_>, bytes: &mut CallBytes) -> Option<Line>
-    requires { Callable (kind_number kind) (taken_body taken []) }
     ensures { (ws : List ℕ) → Tried (meant (Kind.Call kind) taken (words_left rest.entry)) result bytes.new ws }
 {
     ended(rest)?;
@@ -97,7 +94,6 @@ fn print(side: Side, taken: Taken, rest: Words<'_>) -> Option<Line>
 // A line of one form.
 #[tactic(auto, unfolding(crate::specs::Lines::as_form))]
 fn read_as(form: &Form, text: &[u8], bytes: &mut CallBytes, page: &mut PageWords) -> Option<Line>
-    requires { Sound form.now.0 }
     ensures { Tried (as_form (form_of form.now) (words_of text.now)) result bytes.new page.new }
 {
     let mut rest = Words(text);
@@ -114,7 +110,6 @@ fn read_as(form: &Form, text: &[u8], bytes: &mut CallBytes, page: &mut PageWords
 
 // A line of the first of these forms that it is of.
 fn read_by(forms: &[Form], text: &[u8], bytes: &mut CallBytes, page: &mut PageWords) -> Option<Line>
-    requires { AllByRecursion (λ f. Sound f.0) forms.now }
     ensures { Tried (first_form (map form_of forms.now) (words_of text.now)) result bytes.new page.new }
 {
     for form in forms {

@@ -1,14 +1,10 @@
 use Rattle.std.proofs.Common.{◌≡◌, ◌≤◌, ◌++◌, length, drop, sym, arith, rules, length-append, length-drop}
 use Rattle.script.proofs.Carrying.{said_back}
-use Rattle.script.proofs.Standing.{forms_sound}
 use Rattle.script.proofs.Trying.{line_skipped, line_said}
 use Rattle.script.proofs.reading.read.Goals as goal
 
 pub returns-then-is_skipped-clause-said : goal.returns-then-is_skipped-clause-said
 returns-then-is_skipped-clause-said c = line_skipped c.args.text.now (sym c.if-is_skipped.ensures)
-
-pub read_by-requires : goal.read_by-requires
-read_by-requires c = forms_sound
 
 pub returns : goal.returns
 returns c =
