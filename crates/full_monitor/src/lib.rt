@@ -24,8 +24,8 @@ pub use monitor::{LONGEST, Limits, Reply, in_range, open};
 pub use promises::{cells_are_kept, program_is_right, tells_no_secrets};
 use system::by_system;
 
-// The three slices are lent through the C interface; a struct of them would be taken apart again for each room, which has one or two of them.
 // A call: out of range it is refused by 2; then it is the system's while no cell runs, or that of the cell that does.
+// The three slices are lent through the C interface; a struct of them would be taken apart again, since most calls need one or two of them.
 fn taken(memory: &mut [u64], closed: &mut [u32], open: &[u32], call: Call<'_>) -> Answer<'static>
     requires { Lent memory.old closed.old «open».now }
     ensures { Does memory.old closed.old «open».now (call_of call.entry) (answer_of result) memory.new closed.new }

@@ -18,7 +18,8 @@ returns-in-Leave c =
 pub returns-in-Some : goal.returns-in-Some
 returns-in-Some c =
     cell_does c.args.memory.now c.args.closed.now c.args.open.now (call_of c.args.call) c.requires.fits c.args.caller
-    (interrupt (numbers_of c.in-Interrupt.registers)) (ap call_of c.in-Interrupt.is) c.requires.calls _ _ _ (ap answer_of c.into-in-Interrupt.ensures)
+    (interrupt (numbers_of c.in-Interrupt.registers)) (ap call_of c.in-Interrupt.is) c.requires.calls _ _ _
+    (ap answer_of c.into-in-Interrupt.ensures)
     (c.interrupt.ensures ∙ ap (run_ended c.args.memory.now c.args.caller.thread true) c.in-Some.ensures.1) refl
 
 pub returns-in-Fault : goal.returns-in-Fault
