@@ -124,9 +124,11 @@ pub fn play<M: Monitor, R: Read + Drop, W: Write + Drop>(
     prints: Prints,
 ) -> Result<(), Error> {
     let mut lines = Lines::new(heap, input)?;
+    // The room for what is printed is had before a line is read, so that where there is none, nothing is read.
+    let printer = Printer::new(heap, output)?;
     let mut player = Player {
         session: begin::<M, R>(heap, &mut lines)?,
-        printer: Printer::new(heap, output)?,
+        printer,
         prints,
     };
     for _ in 0..u64::MAX {
