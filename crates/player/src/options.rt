@@ -1,6 +1,5 @@
 // What the program is asked to do.
 use std::{env, fmt};
-use thiserror::Error;
 
 #[derive(Drop)]
 pub enum Asked {
@@ -31,14 +30,26 @@ pub struct Prints {
 }
 
 // What is wrong with the arguments.
-#[derive(Debug, Drop, Error)]
+#[derive(Debug, Drop)]
 pub enum BadOptions {
-    #[error("the arguments can't be read")]
     Unreadable,
-    #[error("an option that is none: expected --system, --echo or --help")]
     NoSuchOption,
-    #[error("expected a file of calls")]
     NoFile,
+}
+
+impl fmt::Display for BadOptions {
+    fn fmt<W: fmt::Write>(&self, f: &mut fmt::Formatter<W>) -> fmt::Result {
+        match self {
+            BadOptions::Unreadable => write!(f, "the arguments can't be read"),
+            BadOptions::NoSuchOption => {
+                write!(
+                    f,
+                    "an option that is none: expected --system, --echo or --help"
+                )
+            }
+            BadOptions::NoFile => write!(f, "expected a file of calls"),
+        }
+    }
 }
 
 // The program's arguments. The last file that is named is played.
