@@ -55,14 +55,9 @@ blocks_append (suc n) m s xs ys h =
     (sym (take-append-le 16 xs ys (omega arith))) (sym (drop-append-le 16 xs ys (omega arith)))
     ∙ ap (λ k. blocks_hashed k s (xs ++ ys)) (sym (suc-add n m))
 
--- the whole blocks of words are the first and those behind it, as long as there are sixteen words
-pub first_block : (s : State) (block rest : List ℕ) → length block ≡ 16
-    → blocks_hashed (length (block ++ rest) / 16) s (block ++ rest) ≡ blocks_hashed (length rest / 16) (block_hashed s block) rest
+pub no_blocks : (s : State) (ws : List ℕ) → blocks_hashed 0 s ws ≡ s
 unfolding blocks_hashed
-first_block s block rest h =
-    let one_more : length (block ++ rest) / 16 ≡ suc (length rest / 16) = omega (arith, length-append block rest) in
-    ap (λ n. blocks_hashed n s (block ++ rest)) one_more
-    ∙ ap₂ (λ b r. blocks_hashed (length rest / 16) (block_hashed s b) r) (take_at block rest 16 h) (drop_at block rest 16 h)
+no_blocks s ws = refl
 
 pub no_block : (s : State) (ws : List ℕ) → length ws < 16 → blocks_hashed (length ws / 16) s ws ≡ s
 unfolding blocks_hashed
